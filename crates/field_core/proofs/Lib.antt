@@ -1,0 +1,5 @@
+pub mod Modular
+pub mod Sums
+pub mod Inverses
+pub mod WeightedSums
+pub mod Computing
