@@ -1,0 +1,4 @@
+pub mod Matrices
+pub mod PartLaws
+pub mod Fills
+pub mod Lines

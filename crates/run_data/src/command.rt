@@ -1,0 +1,385 @@
+//! Commands.
+ghost use Rattle.std.specs.Prelude.{◌≡◌};
+ghost use Rattle.std.specs.Option.{option_copied};
+ghost use Rattle.run_data.specs.Script.{is_grid, is_name, maker_after, makes_records, name_at, name_dropped, name_made};
+
+use crate::index_list::IndexList;
+use crate::word::Word;
+
+/// A command of a script: one variant a command, and in the order of its line one field for each word after the first.
+#[derive(Drop)]
+pub enum Command {
+    /// `grid G P Q F`: a new process grid.
+    Grid {
+        name: Word,
+        p: u32,
+        q: u32,
+        f: u32,
+    },
+    /// `matrix A G M N MB NB RSRC CSRC FILE`: a new matrix from a file.
+    Matrix {
+        name: Word,
+        grid: Word,
+        m: u32,
+        n: u32,
+        mb: u32,
+        nb: u32,
+        rsrc: u32,
+        csrc: u32,
+        file: Word,
+    },
+    /// `pgemm TRANSA TRANSB M N K ALPHA A IA JA B IB JB BETA C IC JC`: C becomes ALPHA A B + BETA C.
+    Pgemm {
+        transa: Word,
+        transb: Word,
+        m: u32,
+        n: u32,
+        k: u32,
+        alpha: u32,
+        a: Word,
+        ia: u32,
+        ja: u32,
+        b: Word,
+        ib: u32,
+        jb: u32,
+        beta: u32,
+        c: Word,
+        ic: u32,
+        jc: u32,
+    },
+    /// `ptrsm SIDE UPLO TRANSA DIAG M N ALPHA A IA JA B IB JB`: B becomes the X with A X = ALPHA B.
+    Ptrsm {
+        side: Word,
+        uplo: Word,
+        transa: Word,
+        diag: Word,
+        m: u32,
+        n: u32,
+        alpha: u32,
+        a: Word,
+        ia: u32,
+        ja: u32,
+        b: Word,
+        ib: u32,
+        jb: u32,
+    },
+    /// `pgetrf M N A IA JA V`: A becomes its factors, and V a new pivot list.
+    Pgetrf {
+        m: u32,
+        n: u32,
+        a: Word,
+        ia: u32,
+        ja: u32,
+        v: Word,
+    },
+    /// `pgetrs TRANS N NRHS A IA JA V B IB JB`: B becomes the solution.
+    Pgetrs {
+        trans: Word,
+        n: u32,
+        nrhs: u32,
+        a: Word,
+        ia: u32,
+        ja: u32,
+        v: Word,
+        b: Word,
+        ib: u32,
+        jb: u32,
+    },
+    /// `pgemr2d M N A IA JA B IB JB CTXT`: a window of A is copied into B.
+    Pgemr2d {
+        m: u32,
+        n: u32,
+        a: Word,
+        ia: u32,
+        ja: u32,
+        b: Word,
+        ib: u32,
+        jb: u32,
+        ctxt: Word,
+    },
+    /// `print A`.
+    Print {
+        name: Word,
+    },
+    /// `pivots V`.
+    Pivots {
+        name: Word,
+    },
+    /// `drop X`: a matrix or a pivot list goes.
+    Discard {
+        name: Word,
+    },
+    /// `topology W`, for the lines after it.
+    Topology {
+        kind: Word,
+    },
+    /// `links n`: how many messages a link holds.
+    Links {
+        n: u32,
+    },
+    /// `order` and its numbers.
+    Order {
+        numbers: IndexList,
+    },
+    /// `lose T R`: rank R is lost directly before record T.
+    Lose {
+        at: u32,
+        rank: u32,
+    },
+}
+
+impl Command {
+    /// Whether lines of this command make records of a journal. `grid`, `topology`, `links`, `order` and `lose` make none.
+    pub fn makes_records(&self) -> bool
+        ensures { result ≡ makes_records self.now }
+    {
+        match self {
+            Command::Grid { .. } => false,
+            Command::Topology { .. } => false,
+            Command::Links { .. } => false,
+            Command::Order { .. } => false,
+            Command::Lose { .. } => false,
+            _ => true,
+        }
+    }
+
+    /// Whether it is a `grid`.
+    pub(crate) fn is_grid(&self) -> bool
+        ensures { result ≡ is_grid self.now }
+    {
+        matches!(self, Command::Grid { .. })
+    }
+
+    /// The name of a grid, a matrix or a pivot list that a word of the line is; words count from 0, the command's own word included.
+    pub(crate) fn name_at(&self, word: u32) -> Option<&[u8]>
+        ensures { option_copied result ≡ name_at self.now word }
+    {
+        let name = match (self, word) {
+            (Command::Grid { name, .. }, 1) => name,
+            (Command::Matrix { name, .. }, 1) => name,
+            (Command::Matrix { grid, .. }, 2) => grid,
+            (Command::Pgemm { a, .. }, 7) => a,
+            (Command::Pgemm { b, .. }, 10) => b,
+            (Command::Pgemm { c, .. }, 14) => c,
+            (Command::Ptrsm { a, .. }, 8) => a,
+            (Command::Ptrsm { b, .. }, 11) => b,
+            (Command::Pgetrf { a, .. }, 3) => a,
+            (Command::Pgetrf { v, .. }, 6) => v,
+            (Command::Pgetrs { a, .. }, 4) => a,
+            (Command::Pgetrs { v, .. }, 7) => v,
+            (Command::Pgetrs { b, .. }, 8) => b,
+            (Command::Pgemr2d { a, .. }, 3) => a,
+            (Command::Pgemr2d { b, .. }, 6) => b,
+            (Command::Print { name }, 1) => name,
+            (Command::Pivots { name }, 1) => name,
+            (Command::Discard { name }, 1) => name,
+            _ => return None,
+        };
+        Some(name.bytes())
+    }
+
+    // Whether it makes a thing of this name.
+    fn makes(&self, name: &[u8]) -> bool
+        ensures { result ≡ is_name (name_made self.now) name.now }
+    {
+        match self {
+            Command::Grid { name: made, .. } => made.bytes() == name,
+            Command::Matrix { name: made, .. } => made.bytes() == name,
+            Command::Pgetrf { v, .. } => v.bytes() == name,
+            _ => false,
+        }
+    }
+
+    // Whether it drops the thing of this name.
+    fn drops(&self, name: &[u8]) -> bool
+        ensures { result ≡ is_name (name_dropped self.now) name.now }
+    {
+        match self {
+            Command::Discard { name: dropped } => dropped.bytes() == name,
+            _ => false,
+        }
+    }
+
+    /// The line that made what a name means after this command on a line, where `before` is that line before the command.
+    pub(crate) fn maker_after(&self, line: u32, name: &[u8], before: Option<u32>) -> Option<u32>
+        ensures { result ≡ maker_after (record { line = line; command = self.now }) name.now before }
+    {
+        if self.makes(name) {
+            Some(line)
+        } else if self.drops(name) {
+            None
+        } else {
+            before
+        }
+    }
+}
+
+#[cfg(test)]
+mod tests {
+    use super::*;
+    use std::alloc::{AllocError as NoMemory, Global};
+    use std::test::Fail;
+
+    fn word(alloc: Global) -> Result<Word, NoMemory> {
+        Word::new(alloc, b"A")
+    }
+
+    fn matrix(alloc: Global) -> Result<Command, NoMemory> {
+        let name = word(alloc)?;
+        let grid = word(alloc)?;
+        let file = word(alloc)?;
+        Ok(Command::Matrix {
+            name,
+            grid,
+            m: 1,
+            n: 1,
+            mb: 1,
+            nb: 1,
+            rsrc: 0,
+            csrc: 0,
+            file,
+        })
+    }
+
+    fn pgemm(alloc: Global) -> Result<Command, NoMemory> {
+        let transa = word(alloc)?;
+        let transb = word(alloc)?;
+        let a = word(alloc)?;
+        let b = word(alloc)?;
+        let c = word(alloc)?;
+        Ok(Command::Pgemm {
+            transa,
+            transb,
+            m: 1,
+            n: 1,
+            k: 1,
+            alpha: 1,
+            a,
+            ia: 1,
+            ja: 1,
+            b,
+            ib: 1,
+            jb: 1,
+            beta: 1,
+            c,
+            ic: 1,
+            jc: 1,
+        })
+    }
+
+    fn ptrsm(alloc: Global) -> Result<Command, NoMemory> {
+        let side = word(alloc)?;
+        let uplo = word(alloc)?;
+        let transa = word(alloc)?;
+        let diag = word(alloc)?;
+        let a = word(alloc)?;
+        let b = word(alloc)?;
+        Ok(Command::Ptrsm {
+            side,
+            uplo,
+            transa,
+            diag,
+            m: 1,
+            n: 1,
+            alpha: 1,
+            a,
+            ia: 1,
+            ja: 1,
+            b,
+            ib: 1,
+            jb: 1,
+        })
+    }
+
+    fn pgetrf(alloc: Global) -> Result<Command, NoMemory> {
+        let a = word(alloc)?;
+        let v = word(alloc)?;
+        Ok(Command::Pgetrf {
+            m: 1,
+            n: 1,
+            a,
+            ia: 1,
+            ja: 1,
+            v,
+        })
+    }
+
+    fn pgetrs(alloc: Global) -> Result<Command, NoMemory> {
+        let trans = word(alloc)?;
+        let a = word(alloc)?;
+        let v = word(alloc)?;
+        let b = word(alloc)?;
+        Ok(Command::Pgetrs {
+            trans,
+            n: 1,
+            nrhs: 1,
+            a,
+            ia: 1,
+            ja: 1,
+            v,
+            b,
+            ib: 1,
+            jb: 1,
+        })
+    }
+
+    fn pgemr2d(alloc: Global) -> Result<Command, NoMemory> {
+        let a = word(alloc)?;
+        let b = word(alloc)?;
+        let ctxt = word(alloc)?;
+        Ok(Command::Pgemr2d {
+            m: 1,
+            n: 1,
+            a,
+            ia: 1,
+            ja: 1,
+            b,
+            ib: 1,
+            jb: 1,
+            ctxt,
+        })
+    }
+
+    #[test]
+    fn computing_lines_make_records(rt: HostRuntime) -> Result<(), Fail> {
+        assert!(rt; pgemm(rt.alloc())?.makes_records());
+        assert!(rt; ptrsm(rt.alloc())?.makes_records());
+        assert!(rt; pgetrf(rt.alloc())?.makes_records());
+        assert!(rt; pgetrs(rt.alloc())?.makes_records());
+        assert!(rt; pgemr2d(rt.alloc())?.makes_records());
+        Ok(())
+    }
+
+    #[test]
+    fn lines_on_one_name_make_records(rt: HostRuntime) -> Result<(), Fail> {
+        assert!(rt; matrix(rt.alloc())?.makes_records());
+        let name = word(rt.alloc())?;
+        assert!(rt; Command::Print { name }.makes_records());
+        let name = word(rt.alloc())?;
+        assert!(rt; Command::Pivots { name }.makes_records());
+        let name = word(rt.alloc())?;
+        assert!(rt; Command::Discard { name }.makes_records());
+        Ok(())
+    }
+
+    #[test]
+    fn lines_that_make_no_records(rt: HostRuntime) -> Result<(), Fail> {
+        let alloc = rt.alloc();
+        let name = word(alloc)?;
+        assert!(rt;
+            !Command::Grid {
+                name,
+                p: 1,
+                q: 1,
+                f: 0
+            }
+            .makes_records()
+        );
+        assert!(rt; !Command::Topology { kind: word(alloc)? }.makes_records());
+        assert!(rt; !Command::Links { n: 1 }.makes_records());
+        let numbers = IndexList::new(alloc);
+        assert!(rt; !Command::Order { numbers }.makes_records());
+        assert!(rt; !Command::Lose { at: 0, rank: 0 }.makes_records());
+        Ok(())
+    }
+}
