@@ -1,0 +1,56 @@
+-- The loop that eliminates a column: first the multipliers, then the columns right of it.
+use Rattle.std.proofs.Common.{◌≡◌, ◌≢◌, ℕ, ◌==◌, ◌&&◌, if◌then◌else◌, nat_le, true, false, ◌+◌, ◌-◌, ◌*◌, ◌%◌, ◌<◌, ◌≤◌, refl, sym, ◌∙◌, ap, arith, eq-eqb}
+use Rattle.std.proofs.Math.Nat.{mod-lt, le_refl}
+use Rattle.std.proofs.lemmas.Bool.{ne_eqb}
+use Rattle.std.proofs.lemmas.Bool.Decides.{nat_tests}
+use Rattle.run_data.specs.declared.matrix.Part.{Part}
+use Rattle.run_data.specs.Matrix.{Matrix, cols, entry}
+use Rattle.run_data.specs.Parts.{IsWithin, patched, with_part, part_entry, whole_part}
+use Rattle.run_data.proofs.Matrices.{tabulate-same}
+use Rattle.local_blas.specs.Kernels.{multiplier, eliminated_word, with_eliminated}
+use Rattle.local_blas.proofs.Steps.{loses}
+
+-- the rows from `from` on and the columns from j on
+abbrev pub part_below : Matrix → ℕ → ℕ → Part
+part_below a from j = record { r0 = from; r1 = a.rows; c0 = j; c1 = cols a }
+
+pub IsWithin-part_below : (a : Matrix) (from j : ℕ) → from ≤ a.rows → j < cols a → IsWithin (part_below a from j) a
+IsWithin-part_below a from j h k = record { rows_ordered = h; rows_end = le_refl a.rows; columns_ordered = omega arith; columns_end = le_refl (cols a) }
+
+-- the pivot row as a matrix of one row
+pub first_row : (a : Matrix) (k : ℕ) → part_entry a (whole_part a) 0 k ≡ entry a 0 k
+first_row a k = ap (entry a 0) (let e : 0 + k ≡ k = omega arith in e)
+
+-- in the pivot's column stands the multiplier
+pub eliminated_word-first : (p : ℕ) (inverse : ℕ → ℕ) (a : Matrix) (j : ℕ) (row : ℕ → ℕ) (i : ℕ) → eliminated_word p inverse a j row i j ≡ multiplier p inverse a j (row j) i
+eliminated_word-first p inverse a j row i = (let t : (j == j) ≡ true = eq-eqb j j refl in rw t refl)
+
+-- right of it stands what is left
+pub eliminated_word-later : (p : ℕ) (inverse : ℕ → ℕ) (a : Matrix) (j : ℕ) (row : ℕ → ℕ) (i k : ℕ) → j < k → eliminated_word p inverse a j row i k ≡ (entry a i k + (p - 1) * (multiplier p inverse a j (row j) i * row k)) % p
+eliminated_word-later p inverse a j row i k h = (let other : k ≢ j = omega arith in let t : (k == j) ≡ false = ne_eqb k j other in rw t refl)
+
+pub multiplier-below : (p : ℕ) (inverse : ℕ → ℕ) (a : Matrix) (j pivot i : ℕ) → 0 < p → multiplier p inverse a j pivot i < p
+multiplier-below p inverse a j pivot i pos_p = mod-lt (entry a i j * inverse pivot) pos_p
+
+-- the multiplier as it is computed
+pub eliminated_first : (p : ℕ) (inverse : ℕ → ℕ) (a : Matrix) (j : ℕ) (row : ℕ → ℕ) (i x d d' y : ℕ) → x ≡ entry a i j → d ≡ row j → d' ≡ inverse d → y ≡ (x * d') % p → y ≡ eliminated_word p inverse a j row i j
+eliminated_first p inverse a j row i x d d' y ex ed ed' ey =
+    ey ∙ ap (λ n. (n * d') % p) ex ∙ ap (λ n. (entry a i j * n) % p) (ed' ∙ ap inverse ed) ∙ sym (eliminated_word-first p inverse a j row i)
+
+-- what is left, as it is computed
+pub eliminated_later : (p : ℕ) (inverse : ℕ → ℕ) (a : Matrix) (j : ℕ) (row : ℕ → ℕ) (i k x m r t y : ℕ) → j < k → entry a i k < p → x ≡ entry a i k → m ≡ eliminated_word p inverse a j row i j → r ≡ row k → t ≡ (m * r) % p → y ≡ (x + (p - t)) % p → y ≡ eliminated_word p inverse a j row i k
+eliminated_later p inverse a j row i k x m r t y h word ex em er et ey =
+    loses p (entry a i k) (m * r) t y word et (ey ∙ ap (λ n. (n + (p - t)) % p) ex)
+    ∙ ap (λ n. (entry a i k + (p - 1) * (n * r)) % p) (em ∙ eliminated_word-first p inverse a j row i)
+    ∙ ap (λ n. (entry a i k + (p - 1) * (multiplier p inverse a j (row j) i * n)) % p) er ∙ sym (eliminated_word-later p inverse a j row i k h)
+
+patched-part_below : (a : Matrix) (from j : ℕ) (f g : ℕ → ℕ → ℕ) (r c : ℕ) → r < a.rows → c < cols a → patched (part_below a from j) f g r c ≡ (if nat_le from r && nat_le j c then f r c else g r c)
+unfolding patched
+patched-part_below a from j f g r c hr hc = grind (arith, nat_tests)
+
+-- the whole part below and right of the pivot is done
+pub with_eliminated_is : (p : ℕ) (inverse : ℕ → ℕ) (a : Matrix) (from j : ℕ) (row : Matrix) (rp : Part) → with_part a (part_below a from j) (eliminated_word p inverse a j (part_entry row rp 0)) ≡ with_eliminated p inverse a (nat_le from) j row rp
+with_eliminated_is p inverse a from j row rp =
+    let f : ℕ → ℕ → ℕ = eliminated_word p inverse a j (part_entry row rp 0) in
+    tabulate-same a.rows (cols a) (patched (part_below a from j) f (entry a)) (λ r c. if nat_le from r && nat_le j c then f r c else entry a r c)
+    (λ r c hr hc. patched-part_below a from j f (entry a) r c hr hc)

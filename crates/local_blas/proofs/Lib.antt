@@ -1,0 +1,8 @@
+pub mod Steps
+pub mod Products
+pub mod Solutions
+pub mod SolutionLaws
+pub mod UpperSolutions
+pub mod Eliminations
+pub mod Swaps
+mod Examples

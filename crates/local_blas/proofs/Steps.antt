@@ -1,0 +1,29 @@
+-- Numbers as the kernels compute them, step by step.
+use Rattle.std.proofs.Common.{◌≡◌, ℕ, ◌+◌, ◌-◌, ◌*◌, ◌%◌, ◌<◌, sym, ◌∙◌, ap, arith}
+use Rattle.std.proofs.Math.Nat.{mod-eq_of_lt, add-mod}
+use Rattle.field_core.specs.Sums.{sum_to}
+use Rattle.field_core.proofs.Modular.{residues, sub-product}
+use Rattle.field_core.proofs.Sums.{sum_to-none, sum_to-more}
+
+-- a sum before its first term
+pub sum_starts : (p : ℕ) (f : ℕ → ℕ) → 0 < p → 0 ≡ sum_to 0 f % p
+sum_starts p f pos_p = sym (ap (λ s. s % p) (sum_to-none f) ∙ mod-eq_of_lt pos_p)
+
+-- one product more
+pub sum_goes_on : (p s k x y t new : ℕ) (f : ℕ → ℕ) → s ≡ sum_to k f % p → x * y ≡ f k → t ≡ (x * y) % p → new ≡ (s + t) % p → new ≡ sum_to (k + 1) f % p
+sum_goes_on p s k x y t new f e e_f e_t e_new =
+    let e_t' : t ≡ f k % p = e_t ∙ ap (λ n. n % p) e_f in
+    rw (e_new, e_t', e) (sym (add-mod (sum_to k f) (f k) p) ∙ ap (λ n. n % p) (sym (sum_to-more k f)))
+
+-- a word that gains a times a sum
+pub gains : (p x a s y t new : ℕ) → y ≡ s % p → t ≡ (a * y) % p → new ≡ (x + t) % p → new ≡ (x + a * s) % p
+gains p x a s y t new e_y e_t e_new = rw (e_new, e_t, e_y) (let e : (x + (a * (s % p)) % p) % p ≡ (x + a * s) % p = simp residues in e)
+
+-- a word that loses a sum
+pub loses : (p x s y new : ℕ) → x < p → y ≡ s % p → new ≡ (x + (p - y)) % p → new ≡ (x + (p - 1) * s) % p
+loses p x s y new x_lt e_y e_new =
+    e_new ∙ ap (λ n. (x + (p - n)) % p) e_y ∙ ap (λ n. (n + (p - s % p)) % p) (sym (mod-eq_of_lt x_lt)) ∙ sub-product p x s (omega arith)
+
+-- a word that gains a times another
+pub gains_word : (p x a w y t new : ℕ) → y ≡ w → t ≡ (a * y) % p → new ≡ (x + t) % p → new ≡ (x + a * w) % p
+gains_word p x a w y t new e_y e_t e_new = rw (e_new, e_t, e_y) (let e : (x + (a * w) % p) % p ≡ (x + a * w) % p = simp residues in e)

@@ -1,0 +1,80 @@
+//! What Gaussian elimination does to rows: the search for a pivot, exchange and elimination.
+
+ghost use Rattle.std.specs.Prelude.{◌≡◌, ℕ, ◌<◌, ◌≤◌, ◌≢◌, ◌↔◌, nat_le, IsNone, IfSome};
+ghost use Rattle.field_core.specs.Residue.{inverse};
+ghost use Rattle.run_data.specs.Matrix.{Matrix, cols, entry};
+ghost use Rattle.run_data.specs.Parts.{whole_part};
+ghost use Rattle.local_blas.specs.Kernels.{AreWords, with_eliminated, with_rows_swapped};
+
+use field_core::Field;
+use run_data::Mat;
+
+/// The first row from `from` on whose word in column `j` is not 0, or `None` where there is none.
+///
+/// It stands where LAPACK's xGETF2 calls IxAMAX; over a prime field no word is larger than
+/// another.
+pub fn first_nonzero(m: &Mat, j: u32, from: u32) -> Option<u32>
+    requires column { j < cols m.now }
+    requires from { from ≤ m.now.rows }
+    ensures none { IsNone result ↔ ((i : ℕ) → from ≤ i → i < m.now.rows → entry m.now i j ≡ 0) }
+    ensures range { IfSome result (λ r. (from ≤ r) × (r < m.now.rows)) }
+    ensures nonzero { IfSome result (λ r. entry m.now r j ≢ 0) }
+    ensures first { IfSome result (λ r. (i : ℕ) → from ≤ i → i < r → entry m.now i j ≡ 0) }
+{
+    for i in from..m.rows() {
+        if m.get(i, j) != 0 {
+            return Some(i);
+        }
+    }
+    None
+}
+
+/// Rows `i` and `j` change places in all columns (as LAPACK's xLASWP for one pivot). Where `i` is
+/// `j` nothing changes.
+#[tactic(auto, using(crate::proofs::Swaps::swap_shapes))]
+pub fn swap_rows(dst: &mut Mat, i: u32, j: u32)
+    requires first { i < dst.old.rows }
+    requires second { j < dst.old.rows }
+    ensures { dst.new ≡ with_rows_swapped dst.old i j }
+{
+    let _shaped = dst.rows();
+    for k in 0..dst.cols() {
+        let x = dst.get(i, k);
+        let y = dst.get(j, k);
+        dst.set(i, k, y);
+        dst.set(j, k, x);
+    }
+}
+
+/// Eliminates column `j` in the rows of `dst` from `from` on by a pivot row, a matrix of one row
+/// and as many columns, whose word in column `j` is not 0.
+///
+/// In these rows column `j` becomes the multipliers, its words divided by the pivot; each word
+/// right of it loses the multiplier times the word of the pivot row above it (one step of LAPACK's
+/// xGETF2: xSCAL and xGER).
+#[tactic(auto, using(run_data::proofs::Fills::fills))]
+pub fn eliminate<K: Field>(dst: &mut Mat, from: u32, j: u32, row: &Mat)
+    requires from { from ≤ dst.old.rows }
+    requires column { j < cols dst.old }
+    requires row_rows { row.now.rows ≡ 1 }
+    requires row_columns { cols row.now ≡ cols dst.old }
+    requires dst_words { AreWords K.MODULUS dst.old }
+    requires row_words { AreWords K.MODULUS row.now }
+    requires pivot { entry row.now 0 j ≢ 0 }
+    ensures { dst.new ≡ with_eliminated K.MODULUS (inverse K.MODULUS) dst.old (nat_le from) j row.now (whole_part row.now) }
+{
+    let rows = dst.rows();
+    let cols = dst.cols();
+    let inverse = K::inv(row.get(0, j));
+    'multipliers: for i in from..rows {
+        let word = dst.get(i, j);
+        dst.set(i, j, K::mul(word, inverse));
+    }
+    for k in j + 1..cols {
+        for i in from..rows {
+            let word = dst.get(i, k);
+            let multiplier = dst.get(i, j);
+            dst.set(i, k, K::sub(word, K::mul(multiplier, row.get(0, k))));
+        }
+    }
+}

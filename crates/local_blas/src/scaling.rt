@@ -1,0 +1,48 @@
+//! A part times a number, and a part that gains a multiple of another.
+
+ghost use Rattle.std.specs.Prelude.{◌≡◌, ◌<◌};
+ghost use Rattle.run_data.specs.Matrix.{Matrix};
+ghost use Rattle.run_data.specs.Parts.{IsWithin, SameShape};
+ghost use Rattle.local_blas.specs.Kernels.{AreWords, with_scaled, with_added, everywhere};
+
+use field_core::Field;
+use run_data::{Mat, Part};
+
+/// Multiplies each word of the part `at` of `dst` by `a` (as BLAS's xSCAL for each column).
+#[tactic(auto, using(run_data::proofs::Fills::fills))]
+pub fn scale<K: Field>(dst: &mut Mat, at: Part, a: u32)
+    requires dst_part { IsWithin at dst.old }
+    requires factor { a < K.MODULUS }
+    requires dst_words { AreWords K.MODULUS dst.old }
+    ensures { dst.new ≡ with_scaled K.MODULUS dst.old at a }
+{
+    let _shaped = dst.rows();
+    for j in at.c0..at.c1 {
+        for i in at.r0..at.r1 {
+            let word = dst.get(i, j);
+            dst.set(i, j, K::mul(word, a));
+        }
+    }
+}
+
+/// Adds `a` times each word of the part `sp` of `src` to the word of `dst` at the same place of
+/// the part `at`, which has the same shape (as BLAS's xAXPY for each column).
+#[tactic(auto, using(run_data::proofs::Fills::fills))]
+pub fn add_scaled<K: Field>(dst: &mut Mat, at: Part, a: u32, src: &Mat, sp: Part)
+    requires dst_part { IsWithin at dst.old }
+    requires src_part { IsWithin sp src.now }
+    requires shape { SameShape at sp }
+    requires factor { a < K.MODULUS }
+    requires dst_words { AreWords K.MODULUS dst.old }
+    requires src_words { AreWords K.MODULUS src.now }
+    ensures { dst.new ≡ with_added K.MODULUS dst.old at a src.now sp everywhere }
+{
+    let _shaped = dst.rows();
+    for j in at.c0..at.c1 {
+        for i in at.r0..at.r1 {
+            let word = dst.get(i, j);
+            let other = src.get(sp.r0 + (i - at.r0), sp.c0 + (j - at.c0));
+            dst.set(i, j, K::add(word, K::mul(a, other)));
+        }
+    }
+}

@@ -1,0 +1,83 @@
+//! Triangular solves by substitution.
+
+ghost use Rattle.std.specs.Prelude.{◌≡◌, ℕ, ◌-◌, ◌<◌, ◌≢◌, false};
+ghost use Rattle.field_core.specs.Residue.{inverse};
+ghost use Rattle.run_data.specs.Matrix.{Matrix};
+ghost use Rattle.run_data.specs.Parts.{IsWithin, part_entry};
+ghost use Rattle.local_blas.specs.Kernels.{AreWords, ShapesSolve, divided, with_solved_lower, with_solved_upper};
+
+use crate::product::inner_product;
+use field_core::Field;
+use run_data::{Mat, Part};
+
+/// A word divided by a word of the diagonal, or as it is where the diagonal counts as 1.
+fn quotient<K: Field>(word: u32, diagonal: u32, unit: bool) -> u32
+    requires word { word < K.MODULUS }
+    requires diagonal { diagonal < K.MODULUS }
+    requires nonzero { unit ≡ false → diagonal ≢ 0 }
+    ensures { result ≡ divided K.MODULUS (inverse K.MODULUS) unit diagonal word }
+{
+    if unit {
+        word
+    } else {
+        K::mul(word, K::inv(diagonal))
+    }
+}
+
+/// Solves `L * X = B` in place, where `B` is the part `at` of `dst` and `L` the lower triangle of
+/// the part `bp` of `block`, a square with as many rows (as BLAS's xTRSM with SIDE L, UPLO L,
+/// TRANS N and alpha 1).
+///
+/// With `unit` the diagonal counts as 1 and is not read (DIAG U); else it has no 0. What stands
+/// above the diagonal is not used.
+#[tactic(auto, using(run_data::proofs::Fills::fills))]
+pub fn solve_lower<K: Field>(dst: &mut Mat, at: Part, block: &Mat, bp: Part, unit: bool)
+    requires dst_part { IsWithin at dst.old }
+    requires block_part { IsWithin bp block.now }
+    requires shape { ShapesSolve at bp }
+    requires dst_words { AreWords K.MODULUS dst.old }
+    requires block_words { AreWords K.MODULUS block.now }
+    requires nonzero { unit ≡ false → (i : ℕ) → i < bp.r1 - bp.r0 → part_entry block.now bp i i ≢ 0 }
+    ensures { dst.new ≡ with_solved_lower K.MODULUS (inverse K.MODULUS) dst.old at block.now bp unit }
+{
+    let _shaped = dst.rows();
+    for j in at.c0..at.c1 {
+        for i in at.r0..at.r1 {
+            let row = i - at.r0;
+            let known = inner_product::<K>(block, bp.r0 + row, bp.c0, dst, at.r0, j, row);
+            let word = K::sub(dst.get(i, j), known);
+            let diagonal = block.get(bp.r0 + row, bp.c0 + row);
+            dst.set(i, j, quotient::<K>(word, diagonal, unit));
+        }
+    }
+}
+
+/// Solves `U * X = B` in place, where `B` is the part `at` of `dst` and `U` the upper triangle of
+/// the part `bp` of `block`, a square with as many rows (as BLAS's xTRSM with SIDE L, UPLO U,
+/// TRANS N and alpha 1).
+///
+/// With `unit` the diagonal counts as 1 and is not read (DIAG U); else it has no 0. What stands
+/// below the diagonal is not used.
+#[tactic(auto, using(run_data::proofs::Fills::fills))]
+pub fn solve_upper<K: Field>(dst: &mut Mat, at: Part, block: &Mat, bp: Part, unit: bool)
+    requires dst_part { IsWithin at dst.old }
+    requires block_part { IsWithin bp block.now }
+    requires shape { ShapesSolve at bp }
+    requires dst_words { AreWords K.MODULUS dst.old }
+    requires block_words { AreWords K.MODULUS block.now }
+    requires nonzero { unit ≡ false → (i : ℕ) → i < bp.r1 - bp.r0 → part_entry block.now bp i i ≢ 0 }
+    ensures { dst.new ≡ with_solved_upper K.MODULUS (inverse K.MODULUS) dst.old at block.now bp unit }
+{
+    let _shaped = dst.rows();
+    for j in at.c0..at.c1 {
+        for i in (at.r0..at.r1).rev() {
+            let row = i - at.r0;
+            let later = at.r1 - 1 - i;
+            let next = bp.c0 + row + 1;
+            let known = inner_product::<K>(block, bp.r0 + row, next, dst, i + 1, j, later);
+            let word = K::sub(dst.get(i, j), known);
+            let diagonal = block.get(bp.r0 + row, bp.c0 + row);
+            dst.set(i, j, quotient::<K>(word, diagonal, unit));
+        }
+    }
+}
