@@ -1,0 +1,4 @@
+pub mod Quotients
+pub mod MapLaws
+pub mod CountLaws
+pub mod GroupLaws
