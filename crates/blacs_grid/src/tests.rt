@@ -1,0 +1,73 @@
+use super::*;
+use std::process::Abort;
+
+/// p, q, f, first, and the first broken limit: 0 for none, then rows, columns, code columns, ranks.
+const LIMITS: [[u32; 5]; 19] = [
+    [1, 1, 0, 0, 0],
+    [16, 1, 3, 0, 0],
+    [1, 16, 4, 44, 0],
+    [0, 1, 0, 0, 1],
+    [17, 1, 0, 0, 1],
+    [1, 0, 0, 0, 2],
+    [1, 17, 0, 0, 2],
+    [1, 1, 5, 0, 3],
+    [16, 4, 1, 0, 4],
+    [1, 1, 0, 64, 4],
+    [1, 16, 4, 45, 4],
+    [1, 1, 0, 4294967295, 4],
+    [0, 0, 0, 0, 1],
+    [17, 1, 5, 0, 1],
+    [17, 4, 0, 0, 1],
+    [1, 0, 5, 0, 2],
+    [16, 17, 0, 0, 2],
+    [1, 1, 5, 64, 3],
+    [0, 1, 0, 65, 1],
+];
+
+/// Compares the answer of `Grid::new` with a row of `LIMITS`.
+fn compare_limits(rt: &impl Abort, row: &[u32; 5]) {
+    let [p, q, f, first, fault] = *row;
+    let answer = match Grid::new(p, q, f, first) {
+        Ok(_) => 0,
+        Err(GridFault::Rows) => 1,
+        Err(GridFault::Cols) => 2,
+        Err(GridFault::Code) => 3,
+        Err(GridFault::Ranks) => 4,
+    };
+    assert_eq!(rt; answer, fault, "{row:?}");
+}
+
+#[test]
+fn names_first_broken_limit(rt: HostRuntime) {
+    for row in &LIMITS {
+        compare_limits(&rt, row);
+    }
+}
+
+// A grid of 2 by 3 with 1 code column after 5 ranks of other grids:
+//    5  6  7 |  8
+//    9 10 11 | 12
+#[test]
+fn places_ranks(rt: HostRuntime) {
+    let grid = Grid::new(2, 3, 1, 5).expect(&rt, "within the limits");
+    assert_eq!(rt; (grid.width(), grid.size()), (4, 8));
+    assert_eq!(rt; grid.rank(1, 2), 11);
+    assert_eq!(rt; grid.coords(8), Some((0, 3)));
+    assert_eq!(rt; grid.coords(4), None);
+    assert_eq!(rt; grid.coords(13), None);
+    assert_eq!(rt;
+        (grid.members(Scope::Row(1)), grid.member(Scope::Row(1), 3)),
+        (4, 12)
+    );
+    assert_eq!(rt;
+        (
+            grid.members(Scope::Column(3)),
+            grid.member(Scope::Column(3), 1)
+        ),
+        (2, 12)
+    );
+    assert_eq!(rt;
+        (grid.members(Scope::All), grid.member(Scope::All, 3)),
+        (6, 9)
+    );
+}
