@@ -1,0 +1,11 @@
+pub mod Inverses
+pub mod Modular
+pub mod Poles
+pub mod Loops
+pub mod Steps
+pub mod Law
+pub mod Decodes
+pub mod Unique
+pub mod OnlyOne
+pub mod Proportion
+pub mod RowSums
