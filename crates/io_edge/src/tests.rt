@@ -1,0 +1,46 @@
+//! The machine's files and streams, and the sink that keeps nothing.
+use crate::{HostShelf, HostSink, NullSink, Shelf, ShelfFault, Sink, SinkFault};
+use std::fs;
+use std::test::Fail;
+
+#[test]
+fn reads_a_file_that_it_wrote(rt: HostRuntime) -> Result<(), Fail> {
+    let alloc = rt.alloc();
+    let name = "io_edge_test.txt";
+    let mut sink = HostSink::file(&rt, String::from_str(alloc, name)?);
+    sink.put(b"ab")?;
+    sink.put(b"c")?;
+    let mut shelf = HostShelf::new(&rt);
+    assert_eq!(rt; shelf.read(alloc, name)?.as_slice(), b"abc".as_slice());
+    fs::remove_file(&rt, name)?;
+    assert_eq!(rt;
+        shelf.read(alloc, name).err(),
+        Some(ShelfFault::Failed),
+        "not there"
+    );
+    assert_eq!(rt;
+        shelf.read(alloc, "/dev/zero").err(),
+        Some(ShelfFault::TooLong)
+    );
+    Ok(())
+}
+
+#[test]
+fn writes_to_streams(rt: HostRuntime) -> Result<(), Fail> {
+    assert_eq!(rt; HostSink::stdout(&rt).put(b"out\n"), Ok(()));
+    assert_eq!(rt; HostSink::stderr(&rt).put(b"err\n"), Ok(()));
+    assert_eq!(rt;
+        HostSink::stderr(&rt).put(&[255]),
+        Err(SinkFault::Failed),
+        "no text"
+    );
+    assert_eq!(rt; HostSink::null(&rt).put(b"x"), Ok(()));
+    assert_eq!(rt; NullSink::new().put(b"x"), Ok(()));
+    let lost = String::from_str(rt.alloc(), "no_such_folder/journal.txt")?;
+    assert_eq!(rt;
+        HostSink::file(&rt, lost).put(b"x"),
+        Err(SinkFault::Failed),
+        "no folder"
+    );
+    Ok(())
+}
