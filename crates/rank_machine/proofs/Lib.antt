@@ -1,0 +1,19 @@
+pub mod Runs
+pub mod Base
+pub mod Agree
+mod Checks
+mod Terms
+mod Smallest
+mod Decoded
+mod Factored
+mod FactoredSingular
+mod FactoredLost
+mod FactoredRows
+mod NarrowPanel
+mod Multiplied
+mod Backwards
+mod Redistributed
+mod Solved
+mod SpoiledCommits
+mod SpoiledKernels
+mod SpoiledSteps

@@ -1,0 +1,12 @@
+pub mod Setting
+pub mod Scripts
+pub mod State
+pub mod Effect
+pub mod CodeLaw
+pub mod Marks
+pub mod Legal
+pub mod Tests
+pub mod Losses
+pub mod Held
+pub mod Printed
+pub mod JournalText
