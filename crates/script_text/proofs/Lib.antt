@@ -1,0 +1,5 @@
+pub mod Cuts
+pub mod ScriptLoop
+pub mod Rows
+pub mod Texts
+pub mod Formed
