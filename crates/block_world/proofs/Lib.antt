@@ -1,0 +1,5 @@
+mod Kept
+mod Places
+mod Ended
+mod Replayed
+mod OneWord
