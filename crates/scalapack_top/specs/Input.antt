@@ -1,0 +1,75 @@
+-- What the work comes to over a shelf that tells its files: the input that is run, or the first fault or refusal.
+use Rattle.std.specs.Prelude.{ℕ, List, [], ◌∷◌, Option, Some, None, Result, Ok, Err, pos}
+use Rattle.std.specs.FinMap as map
+use Rattle.io_edge.specs.declared.shelf.ShelfFault.{ShelfFault}
+use Rattle.io_edge.specs.declared.shelf.ShelfFault.TheVariants as shelf
+use Rattle.io_edge.specs.Causes.{counted}
+use Rattle.io_edge.specs.Shelf.{Held, read_answer}
+use Rattle.run_data.specs.Matrix.{Matrix}
+use Rattle.run_data.specs.declared.command.Command.{Command}
+use Rattle.run_data.specs.declared.command.Command.TheVariants as c
+use Rattle.run_data.specs.Script.{Numbered, commands_of}
+use Rattle.rank_machine.specs.Scripts.{Matrices}
+use Rattle.script_text.specs.declared.fault.Refused.{Refused}
+use Rattle.script_text.specs.Script.{script_of}
+use Rattle.script_text.specs.MatrixFile.{matrix_of}
+use Rattle.scalapack_top.specs.declared.status.Status.{Status}
+use Rattle.scalapack_top.specs.declared.status.Status.TheVariants as status
+use Rattle.scalapack_top.specs.Words.{script_name}
+
+-- the first status that ends the work ends the whole
+infixl 10 ◌>>=◌
+abbrev pub ◌>>=◌ : {A B : Type 0} → Result A Status → (A → Result B Status) → Result B Status
+(Ok x) >>= f = f x
+(Err e) >>= f = Err e
+
+-- a script and the whole matrices of its files, by line
+pub record Input : Type 0 where
+  pub script : List (Option Command)
+  pub files : Matrices
+
+-- words of no form are a wrong usage
+abbrev pub of_words : Option (List ℕ) → Result (List ℕ) Status
+of_words None = Err status.Usage
+of_words (Some name) = Ok name
+
+-- what a read of a file comes to; file 0 is the script
+abbrev pub of_read : ℕ → Result (List ℕ) ShelfFault → Result (List ℕ) Status
+of_read file (Ok bytes) = Ok bytes
+of_read file (Err shelf.Failed) = Err (status.ReadFault file)
+of_read file (Err shelf.TooLong) = Err (status.Refused file 0 (pos 12))
+of_read file (Err shelf.NoMemory) = Err status.NoMemory
+
+abbrev pub of_text : {X : Type 0} → Result X Refused → Result X Status
+of_text (Ok x) = Ok x
+of_text (Err r) = Err (status.Refused r.file r.line r.code)
+
+-- a shelf after one more read
+abbrev pub after_read : Held → Held
+after_read held = record held { calls = counted held.calls }
+
+-- the script of a name
+abbrev pub script_from : List ℕ → Held → Result (List (Option Command)) Status
+script_from name held = of_read 0 (read_answer held name) >>= λ bytes. of_text (script_of bytes)
+
+-- the matrix of m rows and n columns of a file, for a matrix line
+abbrev pub matrix_from : List ℕ → ℕ → ℕ → ℕ → Held → Result Matrix Status
+matrix_from file line m n held = of_read line (read_answer held file) >>= λ bytes. of_text (matrix_of bytes line m n)
+
+-- the file of a command's line is read, and then the rest goes on
+abbrev pub file_then : ℕ → Command → Held → Matrices → (Held → Matrices → Result Matrices Status) → Result Matrices Status
+file_then line (c.Matrix name grid m n mb nb rsrc csrc file) held files rest = matrix_from file line m n held >>= λ matrix. rest (after_read held) (map.insert files line matrix)
+file_then line _ held files rest = rest held files
+
+-- the matrix files of commands, in their order, beside those that are there
+abbrev pub files_from : List Numbered → Held → Matrices → Result Matrices Status
+files_from [] held files = Ok files
+files_from (n ∷ ns) held files = file_then n.line n.command held files (λ h m. files_from ns h m)
+
+-- the input of a script of this name
+unfoldable pub input_from : List ℕ → Held → Result Input Status
+input_from name held = script_from name held >>= λ script. files_from (commands_of script) (after_read held) map.empty >>= λ files. Ok (record { script = script; files = files })
+
+-- the input that the words ask for
+abbrev pub input_of : List (List ℕ) → Held → Result Input Status
+input_of words held = of_words (script_name words) >>= λ name. input_from name held

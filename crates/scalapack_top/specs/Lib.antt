@@ -1,0 +1,12 @@
+pub mod Words
+pub mod Status
+pub mod Input
+pub mod Causes
+pub mod Writes
+pub mod PrintedFrom
+pub mod Run
+pub mod Headline
+pub mod Parts
+pub mod Read
+pub mod Runnable
+pub mod Work

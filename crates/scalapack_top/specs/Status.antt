@@ -1,0 +1,22 @@
+-- The numbers of the answers, and their texts on err.
+use Rattle.std.specs.Prelude.{ℕ, List, [], ◌∷◌, ◌++◌, codes, decimal}
+use Rattle.std.specs.Fmt.{signed_decimal}
+use Rattle.scalapack_top.specs.declared.status.Status.{Status}
+use Rattle.scalapack_top.specs.declared.status.Status.TheVariants as status
+
+abbrev pub number_of : Status → ℕ
+number_of status.Done = 0
+number_of (status.Refused file line code) = 1
+number_of status.Usage = 2
+number_of (status.ReadFault file) = 3
+number_of status.WriteFault = 4
+number_of status.NoMemory = 5
+
+-- the text on err, with a line feed at its end where there is one
+abbrev pub error_text : Status → List ℕ
+error_text status.Done = []
+error_text (status.Refused file line code) = codes "refused file " ++ decimal file ++ codes " line " ++ decimal line ++ codes " code " ++ signed_decimal code ++ 10 ∷ []
+error_text status.Usage = codes "usage: scalapack_cli SCRIPT [--journal FILE] or SCRIPT --serial or --generate N" ++ 10 ∷ []
+error_text (status.ReadFault file) = codes "read fault file " ++ decimal file ++ 10 ∷ []
+error_text status.WriteFault = []
+error_text status.NoMemory = codes "no memory" ++ 10 ∷ []

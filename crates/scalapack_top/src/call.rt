@@ -1,0 +1,188 @@
+//! The top call.
+ghost use Rattle.scalapack_top.specs.declared.status.Status.{Status};
+ghost use Rattle.std.specs.Prelude.{◌≡◌, ◌≤◌, ◌⊎◌, ◌++◌, Bool, List, [], Ok, MatchOption, ⊤, IfOk, IfErr, OnOk, codes, decimal};
+ghost use Rattle.scalapack_top.specs.Words.{texts};
+ghost use Rattle.scalapack_top.specs.Writes.{Output, AllPut, written};
+ghost use Rattle.scalapack_top.specs.Status.{error_text};
+ghost use Rattle.scalapack_top.specs.Input.{Input, input_from};
+ghost use Rattle.scalapack_top.specs.Causes.{FailsAs, IsFailure, IsCaused};
+ghost use Rattle.scalapack_top.specs.Headline.{IsAnswer, IsDone, HasCause};
+ghost use Rattle.scalapack_top.specs.Work.{error_of, output_of};
+
+use crate::input::read_input;
+use crate::run::{Ran, run};
+use crate::status::Status;
+use crate::words::{places_of, text_at};
+use crate::writes::write;
+use io_edge::{Shelf, Sink};
+use itoa::Buffer;
+use std::alloc::{AllocError, Global};
+
+/// What the work came to, and its texts. `made` is the text on err where that isn't fixed.
+#[derive(Drop)]
+pub struct Work {
+    pub answer: Status,
+    pub out: Vec<u8>,
+    pub made: Vec<u8>,
+    pub journal: Vec<u8>,
+}
+
+fn add_number(out: &mut Vec<u8>, n: u32) -> Result<(), AllocError>
+    ensures { OnOk result (out.new.items ≡ out.old.items ++ decimal n) }
+{
+    let mut buffer = Buffer::new();
+    out.extend_from_slice(buffer.format(n as usize).as_bytes())
+}
+
+fn refused_text(alloc: Global, file: u32, line: u32, code: i32) -> Result<Vec<u8>, AllocError>
+    ensures { IfOk result (λ v. v.items ≡ error_text (Status.Refused file line code)) }
+{
+    let mut out = Vec::from_slice(alloc, b"refused file ")?;
+    add_number(&mut out, file)?;
+    out.extend_from_slice(b" line ")?;
+    add_number(&mut out, line)?;
+    out.extend_from_slice(b" code ")?;
+    let mut buffer = Buffer::new();
+    out.extend_from_slice(buffer.format(code).as_bytes())?;
+    out.push(b'\n')?;
+    Ok(out)
+}
+
+fn fault_text(alloc: Global, file: u32) -> Result<Vec<u8>, AllocError>
+    ensures { IfOk result (λ v. v.items ≡ error_text (Status.ReadFault file)) }
+{
+    let mut out = Vec::from_slice(alloc, b"read fault file ")?;
+    add_number(&mut out, file)?;
+    out.push(b'\n')?;
+    Ok(out)
+}
+
+// The text of an answer, where it isn't fixed.
+fn made_text(alloc: Global, answer: Status) -> Result<Vec<u8>, AllocError>
+    ensures { IfOk result (λ v. error_of answer v.items ≡ error_text answer) }
+{
+    match answer {
+        Status::Refused { file, line, code } => refused_text(alloc, file, line, code),
+        Status::ReadFault { file } => fault_text(alloc, file),
+        Status::Done | Status::Usage | Status::WriteFault | Status::NoMemory => Ok(Vec::new(alloc)),
+    }
+}
+
+// An answer without a run, or want of memory for its text.
+fn ended(alloc: Global, answer: Status) -> Work
+    ensures answer { (result.answer ≡ answer) ⊎ (result.answer ≡ Status.NoMemory) }
+    ensures output { output_of result ≡ record { out = []; err = error_text result.answer; journal = [] } }
+{
+    match made_text(alloc, answer) {
+        Ok(made) => Work {
+            answer,
+            out: Vec::new(alloc),
+            made,
+            journal: Vec::new(alloc),
+        },
+        Err(_) => Work {
+            answer: Status::NoMemory,
+            out: Vec::new(alloc),
+            made: Vec::new(alloc),
+            journal: Vec::new(alloc),
+        },
+    }
+}
+
+// Reads the input of a name and runs it.
+fn run_named<F: Shelf>(alloc: Global, shelf: &mut F, name: &str) -> Result<Ran, Status>
+    ensures ran { IfOk result (λ r. (input : Input) × MatchOption (F.told shelf.old) ⊤ (λ held. input_from name.now held ≡ Ok input) × IsDone input (record { out = r.out.items; err = []; journal = r.journal.items })) }
+    ensures failure { IfErr result IsFailure }
+    ensures failed { IfErr result (λ e. MatchOption (F.told shelf.old) ⊤ (λ held. FailsAs e (input_from name.now held))) }
+    ensures faults { F.faults shelf.old ≤ F.faults shelf.new }
+    ensures longs { F.longs shelf.old ≤ F.longs shelf.new }
+    ensures caused { IfErr result (IsCaused (F.faults shelf.old) (F.faults shelf.new) (F.longs shelf.old) (F.longs shelf.new)) }
+{
+    match read_input(alloc, shelf, name) {
+        Ok(prepared) => match run(alloc, &prepared.script, &prepared.files) {
+            Ok(ran) => Ok(ran),
+            Err(_) => Err(Status::NoMemory),
+        },
+        Err(e) => Err(e),
+    }
+}
+
+// The answer for words of no form.
+fn usage(alloc: Global) -> Work
+    ensures answer { result.answer ≡ Status.Usage }
+    ensures output { output_of result ≡ record { out = []; err = error_text Status.Usage; journal = [] } }
+{
+    Work {
+        answer: Status::Usage,
+        out: Vec::new(alloc),
+        made: Vec::new(alloc),
+        journal: Vec::new(alloc),
+    }
+}
+
+// What the work answers, and what it makes.
+fn answer_words<F: Shelf>(alloc: Global, words: &[String], shelf: &mut F) -> Work
+    ensures answer { IsAnswer (texts words.now) (F.told shelf.old) result.answer (output_of result) }
+    ensures cause { HasCause (F.faults shelf.old) (F.faults shelf.new) (F.longs shelf.old) (F.longs shelf.new) result.answer }
+{
+    let Some(places) = places_of(words) else {
+        return usage(alloc);
+    };
+    match run_named(alloc, shelf, text_at(words, places.script)) {
+        Ok(ran) => Work {
+            answer: Status::Done,
+            out: ran.out,
+            made: Vec::new(alloc),
+            journal: ran.journal,
+        },
+        Err(e) => ended(alloc, e),
+    }
+}
+
+const USAGE: &[u8] =
+    b"usage: scalapack_cli SCRIPT [--journal FILE] or SCRIPT --serial or --generate N\n";
+
+const NO_MEMORY: &[u8] = b"no memory\n";
+
+fn error_bytes(work: &Work) -> &[u8]
+    ensures { result.now ≡ error_of work.now.answer work.now.made.items }
+{
+    match work.answer {
+        Status::Usage => USAGE,
+        Status::NoMemory => NO_MEMORY,
+        _ => &work.made,
+    }
+}
+
+/// Runs the script that the words name over the shelf's files, and writes the printed text to `out`, the text of an error to
+/// `err`, and the journal's text to `journal`.
+///
+/// The words, without the program's name, are `S`, `S --journal J` or `--journal J S`; all others are `Usage`. The script and then
+/// its matrix files in line order are read and checked, each before the next is read; the first fault or refusal is the answer.
+/// Nothing is written before all is made: then out, err and journal get their bytes in this order, each by one put, and a put of
+/// no bytes isn't made. The first put that fails makes the answer `WriteFault`, and nothing is put after it.
+pub fn scalapack<F: Shelf, O: Sink, E: Sink, J: Sink>(
+    alloc: Global,
+    words: &[String],
+    shelf: &mut F,
+    out: &mut O,
+    err: &mut E,
+    journal: &mut J,
+) -> Status
+    ensures { (answer : Status) × (output : Output) × (ok : Bool)
+        × IsAnswer (texts words.now) (F.told shelf.old) answer output
+        × HasCause (F.faults shelf.old) (F.faults shelf.new) (F.longs shelf.old) (F.longs shelf.new) answer
+        × AllPut O.told O.faults E.told E.faults J.told J.faults out.old out.new err.old err.new journal.old journal.new output ok
+        × (result ≡ written answer ok) }
+{
+    let work = answer_words(alloc, words, shelf);
+    let ok = write(
+        &work.out,
+        error_bytes(&work),
+        &work.journal,
+        out,
+        err,
+        journal,
+    );
+    if ok { work.answer } else { Status::WriteFault }
+}
