@@ -1,0 +1,8 @@
+//! Links between the ranks of a machine: first in, first out, of a fixed capacity.
+#![tactic(auto)]
+
+mod links;
+#[cfg(test)]
+mod tests;
+
+pub use links::{Links, NoMemory};
