@@ -1,0 +1,4 @@
+mod counter;
+mod plain;
+mod rounds;
+mod word;
