@@ -1,5 +1,5 @@
 -- What the rings of the links show of the messages.
-use Rattle.std.proofs.Common.{◌≡◌, ℕ, ◌+◌, ◌*◌, ◌<◌, ◌≤◌, List, [], ◌∷◌, ◌++◌, length, get_or, set, replicate, take, zero, suc, map, refl, sym, ◌∙◌, ap, subst, arith, Result, Ok, Err, OnOk, OnErr, IfErr, Option, IsSome, IfNone, slice_get, drop, rules, ◌↔◌}
+use Rattle.std.proofs.Common.{◌≡◌, ℕ, ◌+◌, ◌*◌, ◌<◌, ◌≤◌, List, [], ◌∷◌, ◌++◌, length, get_or, set, replicate, take, zero, suc, map, refl, sym, ◌∙◌, ap, subst, arith, Result, Ok, Err, OnOk, IfErr, Option, IsSome, IfNone, slice_get, drop, rules, ◌↔◌}
 use Rattle.std.proofs.lemmas.List.{length-map, length-replicate, map-set, map-append, get_or-replicate, get_or-map, replicate_more, take_more_set, set-get_or}
 use Rattle.std.proofs.Math.Seq.{map-set_same}
 use Rattle.std.proofs.lemmas.Nat.{mul-add-lt}

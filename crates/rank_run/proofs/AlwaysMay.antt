@@ -1,5 +1,5 @@
 -- Rounds on memories on which everything is allowed.
-use Rattle.std.proofs.Common.{◌≡◌, ℕ, zero, suc, ◌<◌, List, [], ◌∷◌, length, get_or, slice_get, All, sym, subst, arith, ◌∙◌}
+use Rattle.std.proofs.Common.{◌≡◌, ℕ, zero, suc, ◌<◌, List, [], ◌∷◌, length, slice_get, All, sym, subst, arith, ◌∙◌}
 use Rattle.std.specs.Option.{IsSomeAnd}
 use Rattle.rank_run.specs.declared.round.Event.{Event}
 use Rattle.rank_run.specs.declared.round.Event.TheVariants.{Local, Move}

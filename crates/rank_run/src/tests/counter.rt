@@ -26,7 +26,14 @@ impl Store for Counter {
 
     type Msg = u32;
 
-    ghost memory = { record { can_apply = λ x op. x.now + op ≤ 1000; applied = λ x op. record x { now = x.now + op }; can_read = λ x p. Unit {0}; read = λ x p. (if p then x.now else x.saved); can_write = λ x p w. IsTrue p; written = λ x p w. record x { now = w } } };
+    ghost memory = { record {
+      can_apply = λ x op. x.now + op ≤ 1000;
+      applied = λ x op. record x { now = x.now + op };
+      can_read = λ x p. Unit {0};
+      read = λ x p. (if p then x.now else x.saved);
+      can_write = λ x p w. IsTrue p;
+      written = λ x p w. record x { now = w };
+    } };
 
     ghost base = { λ x p. Some x.saved };
 

@@ -20,7 +20,14 @@ impl Store for Word {
 
     type Msg = u32;
 
-    ghost memory = { record { can_apply = λ x op. Unit {0}; applied = λ x op. record { value = op }; can_read = λ x p. Unit {0}; read = λ x p. x.value; can_write = λ x p w. Unit {0}; written = λ x p w. record { value = w } } };
+    ghost memory = { record {
+      can_apply = λ x op. Unit {0};
+      applied = λ x op. record { value = op };
+      can_read = λ x p. Unit {0};
+      read = λ x p. x.value;
+      can_write = λ x p w. Unit {0};
+      written = λ x p w. record { value = w };
+    } };
 
     ghost base = { λ x p. None };
 

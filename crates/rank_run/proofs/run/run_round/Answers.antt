@@ -1,4 +1,4 @@
-use Rattle.std.proofs.Common.{◌<◌, ◌≡◌, ◌∙◌, length, refl, sym, arith, rules}
+use Rattle.std.proofs.Common.{◌<◌, ◌∙◌, length, refl, sym, arith, rules}
 use Rattle.rank_run.proofs.Loop.{in_round_at_start, some_ready, rank_within, place_within, turn, run_whole, run_hit}
 use Rattle.rank_run.proofs.run.run_round.Goals as goal
 
