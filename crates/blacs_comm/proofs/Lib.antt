@@ -1,0 +1,9 @@
+pub mod Counts
+pub mod Folds
+pub mod Joins
+pub mod Leading
+pub mod Places
+pub mod Scopes
+pub mod Spreading
+pub mod Spreads
+pub mod Working

@@ -1,0 +1,4 @@
+pub mod Leads
+pub mod Moves
+pub mod Positions
+pub mod Works
