@@ -1,5 +1,5 @@
 -- How a round leads on when events are appended.
-use Rattle.std.proofs.Common.{◌≡◌, ◌≢◌, ℕ, zero, suc, ◌<◌, List, [], ◌∷◌, ◌++◌, Some, slice_get, refl, sym, ◌∙◌, ap, subst, inl, inr, arith}
+use Rattle.std.proofs.Common.{◌≡◌, ◌≢◌, ℕ, zero, suc, ◌<◌, List, [], ◌∷◌, ◌++◌, Some, length, get_or, slice_get, refl, sym, ◌∙◌, ap, subst, inl, inr, arith}
 use Rattle.std.proofs.lemmas.Bool.Decides.{eqb_tells}
 use Rattle.rank_run.specs.declared.round.Event.{Event}
 use Rattle.rank_run.specs.declared.round.Event.TheVariants.{Local, Move}
@@ -20,6 +20,11 @@ module _ {Mem : Type 0} where
   get-memories zero f r lt = absurd (omega arith)
   get-memories (suc n) f zero lt = refl
   get-memories (suc n) f (suc r) lt = get-memories n (λ q. f (suc q)) r (omega arith)
+
+  -- memories in a list, as a function of the rank
+  pub list_memories : (d : Mem) (xs : List Mem) → memories (length xs) (λ r. get_or xs r d) ≡ xs
+  list_memories d [] = refl
+  list_memories d (x ∷ xs) = ap (λ l. x ∷ l) (list_memories d xs)
 
   pub with_same : (f : ℕ → Mem) (r : ℕ) (x : Mem) → with_memory f r x r ≡ x
   with_same f r x = if_same r r x (f r) refl
@@ -64,6 +69,10 @@ module _ {Mem Op Piece Msg : Type 0} (m : Memory Mem Op Piece Msg) where
         after = after_events-append (memories n f) es (e ∷ []) ∙ (ap (λ (mems : List Mem). after_event m mems e) l.after ∙ is);
       }
 
+  -- a round without events leads nowhere
+  pub leads_start : (n : ℕ) (es : List (Event Mem Op Piece Msg)) (f : ℕ → Mem) → es ≡ [] → Leads m n es f f
+  leads_start n es f none = subst (λ (l : List (Event Mem Op Piece Msg)). Leads m n l f f) (sym none) (record { may = tt; after = refl })
+
   pub leads_same : (n : ℕ) (es : List (Event Mem Op Piece Msg)) (f g h : ℕ → Mem) → Leads m n es f g → ((r : ℕ) → r < n → g r ≡ h r) → Leads m n es f h
   leads_same n es f g h l same = record { may = l.may; after = l.after ∙ same_memories n g h same }
 
@@ -107,3 +116,9 @@ module _ {Mem Op Piece Msg : Type 0} (m : Memory Mem Op Piece Msg) where
       ExtendsBy m es es2 (λ n g. Ready1 n g × ((h : ℕ → Mem) → Effect1 g h → Ready2 n h)) (λ g k. (h : ℕ → Mem) × Effect1 g h × (k ≡ effect2 h))
   extends_by_then es es1 es2 Ready1 Ready2 Effect1 effect2 one two n f g l can =
       let mid = one n f g l can.0 in (effect2 mid.0, two n f mid.0 mid.1 (can.1 mid.0 mid.2), (mid.0, mid.2, refl))
+
+  -- a round that was built from none may be run from memories that are ready
+  pub may_of_extends : (es es' : List (Event Mem Op Piece Msg)) (Ready : ℕ → (ℕ → Mem) → Type 0) (effect : (ℕ → Mem) → ℕ → Mem) (d : Mem) (mems : List Mem) (n : ℕ) → Extends m es es' Ready effect → es ≡ [] → length mems ≡ n → Ready n (λ r. get_or mems r d) → MayRun m mems es'
+  may_of_extends es es' Ready effect d mems n extends none count ready =
+      let f : ℕ → Mem = λ r. get_or mems r d in
+      subst (λ (l : List Mem). MayRun m l es') (ap (λ k. memories k f) (sym count) ∙ list_memories d mems) (extends n f f (leads_start n es f none) ready).may
