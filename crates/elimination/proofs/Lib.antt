@@ -1,0 +1,11 @@
+pub mod Exchanges
+pub mod Steps
+pub mod Reductions
+pub mod PanelLaws
+pub mod CodeLaws
+pub mod Stages
+pub mod Info
+pub mod SolveLaws
+pub mod Words
+pub mod UpperLaws
+mod Examples
