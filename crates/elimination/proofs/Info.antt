@@ -21,7 +21,7 @@ diagonal_word p inverse j a =
     let u : (j == j) ≡ true = eq-eqb j j refl in
     simp (t, u)
 
-swapped-first : (j r : ℕ) → swapped j r j ≡ r
+pub swapped-first : (j r : ℕ) → swapped j r j ≡ r
 swapped-first j r = (let u : (j == j) ≡ true = eq-eqb j j refl in rw u refl)
 
 -- a step's INFO tells whether its diagonal word is 0

@@ -9,3 +9,7 @@ pub mod SolveLaws
 pub mod Words
 pub mod UpperLaws
 mod Examples
+mod WholeExchanges
+mod WholeSteps
+mod WholeLoops
+mod WholeCarried

@@ -1,3 +1,4 @@
 pub mod Panels
 pub mod CodeLaw
 pub mod Solves
+pub mod Whole

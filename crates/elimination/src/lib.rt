@@ -11,3 +11,6 @@
 pub mod code;
 pub mod panel;
 pub mod solve;
+#[cfg(test)]
+mod tests;
+pub mod whole;
