@@ -8,6 +8,9 @@ pub mod Info
 pub mod SolveLaws
 pub mod Words
 pub mod UpperLaws
+pub mod Pivots
+pub mod StripMaps
+pub mod StripLaws
 mod Examples
 mod WholeExchanges
 mod WholeSteps

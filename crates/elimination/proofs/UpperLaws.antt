@@ -44,11 +44,12 @@ upper_solved-last p inverse unit u first m n x k h =
     ∙ ap (λ b. upper_solution p inverse unit n (λ i k. u (first + (m + i)) (first + (m + k))) b k) right
     ∙ sym (upper_solution-last_block p inverse unit m n (λ i k. u (first + i) (first + k)) (λ i. x (first + i)) k h)
 
--- a word of the upper solution of n rows reads the first n words of the right side alone
-same_right : (p : ℕ) (inverse : ℕ → ℕ) (unit : Bool) (n : ℕ) (u : ℕ → ℕ → ℕ) (b b' : ℕ → ℕ) → ((i : ℕ) → i < n → b i ≡ b' i) → (i : ℕ) → i < n → upper_solution p inverse unit n u b i ≡ upper_solution p inverse unit n u b' i
-same_right p inverse unit n u b b' same i h =
-    solution-same p inverse unit (λ r k. u (from_last n r) (from_last n k)) (λ r k. u (from_last n r) (from_last n k)) (λ k. b (from_last n k)) (λ k. b' (from_last n k)) (from_last n i)
-    (λ r k _ _. refl) (λ r hr. same (from_last n r) (let e : n - 1 - r < n = omega arith in e))
+-- a word of the upper solution of n rows reads the first n rows and columns alone
+pub upper_solution-same : (p : ℕ) (inverse : ℕ → ℕ) (unit : Bool) (n : ℕ) (u u' : ℕ → ℕ → ℕ) (b b' : ℕ → ℕ) → ((r k : ℕ) → r < n → k < n → u r k ≡ u' r k) → ((i : ℕ) → i < n → b i ≡ b' i) → (i : ℕ) → i < n → upper_solution p inverse unit n u b i ≡ upper_solution p inverse unit n u' b' i
+upper_solution-same p inverse unit n u u' b b' triangle same i h =
+    solution-same p inverse unit (λ r k. u (from_last n r) (from_last n k)) (λ r k. u' (from_last n r) (from_last n k)) (λ k. b (from_last n k)) (λ k. b' (from_last n k)) (from_last n i)
+    (λ r k _ _. triangle (from_last n r) (from_last n k) (let e : n - 1 - r < n = omega arith in e) (let e : n - 1 - k < n = omega arith in e))
+    (λ r hr. same (from_last n r) (let e : n - 1 - r < n = omega arith in e))
 
 -- so are the first rows' words, once the last rows were taken off
 upper_solved-first : (p : ℕ) (inverse : ℕ → ℕ) (unit : Bool) (u : ℕ → ℕ → ℕ) (first m n : ℕ) (x : ℕ → ℕ) (k : ℕ) → k < m → upper_solved p inverse unit u first m (upper_reduced p inverse unit u (first + m) n x) k ≡ upper_solved p inverse unit u first (m + n) x k
@@ -60,7 +61,7 @@ upper_solved-first p inverse unit u first m n x k h =
     ∙ ap (λ s. (x (first + i) + (p - 1) * s) % p)
     (sum_to-same n (λ k. u (first + i) (first + m + k) * upper_solved p inverse unit u (first + m) n x k) (λ k. t i (m + k) * upper_solution p inverse unit (m + n) t b (m + k))
     (λ k hk. ap (λ c. u (first + i) c * upper_solved p inverse unit u (first + m) n x k) (turn first m k) ∙ ap (λ y. t i (m + k) * y) (upper_solved-last p inverse unit u first m n x k hk))) in
-    same_right p inverse unit m t (λ i. upper_reduced p inverse unit u (first + m) n x (first + i)) (λ i. (b i + (p - 1) * sum_to n (λ k. t i (m + k) * upper_solution p inverse unit (m + n) t b (m + k))) % p) taken k h
+    upper_solution-same p inverse unit m t t (λ i. upper_reduced p inverse unit u (first + m) n x (first + i)) (λ i. (b i + (p - 1) * sum_to n (λ k. t i (m + k) * upper_solution p inverse unit (m + n) t b (m + k))) % p) (λ r k _ _. refl) taken k h
     ∙ sym (upper_solution-first_block p inverse unit m n t b k h)
 
 -- the rows first + m, .., and then the m ones before them, are the first m + n: block after block is all at once

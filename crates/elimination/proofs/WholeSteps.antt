@@ -12,6 +12,7 @@ use Rattle.local_blas.specs.Kernels.{AreWords, swapped, with_rows_swapped, with_
 use Rattle.serial_model.specs.Elimination.{exchange, divide, subtract, pivot_from, with_pivot, eliminate_column}
 use Rattle.run_data.proofs.PartLaws.{AreWords-tabulate}
 use Rattle.elimination.proofs.Info.{swapped-first}
+use Rattle.elimination.proofs.Pivots.{pivot_from-none, pivot_from-some}
 use Rattle.elimination.proofs.Words.{multiplier_at, column-above, column-left, column-multiplier, column-right}
 use Rattle.elimination.specs.Whole.{strip_words, strip_of, strip_state}
 
@@ -68,23 +69,6 @@ strip_step p inverse a b row u first j r hd hj eb erow eu inside =
           ])
     ] in
     u_is ∙ tabulate-same m c f (λ i k. subtract p d (divide p inverse d x) i (first + k)) all
-
-pivot_from-none : (c : ℕ → ℕ) (i count : ℕ) → ((k : ℕ) → i ≤ k → k < i + count → c k ≡ 0) → pivot_from c i count ≡ None
-unfolding pivot_from
-pivot_from-none c i zero all = refl
-pivot_from-none c i (suc count) all =
-    (let t : (c i == 0) ≡ true = eq-eqb (c i) 0 (all i (omega arith) (omega arith)) in
-    rw t (pivot_from-none c (i + 1) count (λ k h1 h2. all k (omega arith) (omega arith))))
-
-pivot_from-some : (c : ℕ → ℕ) (i count r : ℕ) → i ≤ r → r < i + count → c r ≢ 0 → ((k : ℕ) → i ≤ k → k < r → c k ≡ 0) → pivot_from c i count ≡ Some r
-unfolding pivot_from
-pivot_from-some c i zero r h1 h2 nonzero all = absurd (omega arith)
-pivot_from-some c i (suc count) r h1 h2 nonzero all =
-    elim (cases_eq i r) [
-      | inl here ↦ (let t : (c i == 0) ≡ false = ne_eqb (c i) 0 (λ e. nonzero (subst (λ n. c n ≡ 0) here e)) in rw t (ap Some here))
-      | inr later ↦ (let t : (c i == 0) ≡ true = eq-eqb (c i) 0 (all i (omega arith) (omega arith)) in
-          rw t (pivot_from-some c (i + 1) count r (omega arith) (omega arith) nonzero (λ k g1 g2. all k (omega arith) (omega arith))))
-    ]
 
 -- the column of the strip, as a column of the whole
 strip_column : (first j : ℕ) (a : Matrix) (i : ℕ) → strip_words first a i (first + j) ≡ entry a i j
