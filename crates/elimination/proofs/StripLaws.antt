@@ -6,15 +6,15 @@ use Rattle.field_core.specs.Sums.{sum_to}
 use Rattle.field_core.proofs.Sums.{sum_to-same}
 use Rattle.run_data.specs.declared.matrix.Part.{Part}
 use Rattle.run_data.specs.Matrix.{Matrix, cols, entry}
-use Rattle.run_data.specs.Parts.{patched, with_part, part_entry, whole_part}
+use Rattle.run_data.specs.Parts.{patched, with_part, part_entry, with_copy}
 use Rattle.run_data.proofs.Matrices.{rows-tabulate, cols-tabulate, entry-tabulate}
 use Rattle.run_data.proofs.PartLaws.{rows-with_part, cols-with_part}
-use Rattle.local_blas.specs.Kernels.{solution, upper_solution, from_last, swapped, eliminated_word, multiplier, with_product, with_solved_lower, with_solved_upper, with_eliminated, product_word}
-use Rattle.local_blas.proofs.Eliminations.{eliminated_word-first, eliminated_word-later, first_row}
+use Rattle.local_blas.specs.Kernels.{solution, upper_solution, from_last, swapped, eliminated_word, multiplier, with_product, with_solved_lower, with_solved_upper, with_eliminated, with_rows_swapped, product_word}
+use Rattle.local_blas.proofs.Eliminations.{eliminated_word-first, eliminated_word-later}
 use Rattle.serial_model.specs.Elimination.{exchange, divide, subtract, pivot_from, with_pivot, Eliminated, eliminate_column, pivot_row, came_from, exchanged}
 use Rattle.elimination.specs.Panels.{solved, reduced}
 use Rattle.elimination.specs.Solves.{upper_solved, upper_reduced, gained}
-use Rattle.elimination.specs.Strips.{RowMap, IsRowMap, IsBlock, rows_below, row_at, row_owner, row_place, Hold, held, AreExchanged, in_rows, solved_rows, upper_solved_rows, gained_rows, span, block_rows, AreSolved, AreUpperSolved, HaveGained, AreEliminated}
+use Rattle.elimination.specs.Strips.{RowMap, IsRowMap, IsBlock, rows_below, row_at, row_owner, row_place, Hold, held, AreExchanged, in_rows, solved_rows, upper_solved_rows, gained_rows, span, block_rows, AreSolved, AreUpperSolved, HaveGained, AreEliminated, one_row}
 use Rattle.elimination.proofs.Reductions.{solution-same, reduced-above, reduced-among, reduced-under}
 use Rattle.elimination.proofs.UpperLaws.{upper_solution-same, upper_reduced-above, upper_reduced-among, upper_reduced-under}
 use Rattle.elimination.proofs.Words.{multiplier_at, column-above, column-left, column-multiplier, column-right}
@@ -314,8 +314,8 @@ eliminated_at p inverse a first j l k g line x here column pivot above =
     test_holds b c y z e f = (rw (e, f) refl)
 
 -- one column of a panel, by the words of the global columns from `first` on
-pub eliminate-held : (d : RowMap) (width p : ℕ) (inverse : ℕ → ℕ) (first j : ℕ) (x : ℕ → ℕ → ℕ) (line : ℕ → Matrix) (strips strips' : ℕ → Matrix) → IsRowMap d → j < width → AreEliminated d width p inverse (first + j) j (λ i c. x i (first + c)) line strips strips' → Hold d width (λ i c. x i (first + c)) strips → Hold d width (λ i c. subtract p (first + j) (divide p inverse (first + j) x) i (first + c)) strips'
-eliminate-held d width p inverse first j x line strips strips' map hj done hold =
+pub eliminate-held : (d : RowMap) (width p : ℕ) (inverse : ℕ → ℕ) (first j : ℕ) (x : ℕ → ℕ → ℕ) (line : ℕ → Matrix) (at : ℕ → Part) (strips strips' : ℕ → Matrix) → IsRowMap d → j < width → AreEliminated d width p inverse (first + j) j (λ i c. x i (first + c)) line at strips strips' → Hold d width (λ i c. x i (first + c)) strips → Hold d width (λ i c. subtract p (first + j) (divide p inverse (first + j) x) i (first + c)) strips'
+eliminate-held d width p inverse first j x line at strips strips' map hj done hold =
     record {
       rows = λ row h. ap (λ m. m.rows) (done.made row h) ∙ rows-tabulate (strips row).rows (cols (strips row)) (w row) ∙ hold.rows row h;
       columns = λ row h. ap cols (done.made row h) ∙ cols-tabulate (strips row).rows (cols (strips row)) (w row) ∙ hold.columns row h;
@@ -323,12 +323,12 @@ eliminate-held d width p inverse first j x line strips strips' map hj done hold 
           (let rows : (strips row).rows ≡ rows_below d d.m row = hold.rows row h in
           let columns : cols (strips row) ≡ width = hold.columns row h in
           ap (λ m. entry m l c) (done.made row h) ∙ entry-tabulate (strips row).rows (cols (strips row)) (w row) l c (rw rows hl) (rw columns hc)
-          ∙ eliminated_at p inverse (strips row) first j l c (row_at d row l) (part_entry (line row) (whole_part (line row)) 0) x
-          (hold.words row l c h hl hc) (hold.words row l j h hl hj) (first_row (line row) j ∙ done.pivot_words row j h hj) (first_row (line row) c ∙ done.pivot_words row c h hc));
+          ∙ eliminated_at p inverse (strips row) first j l c (row_at d row l) (part_entry (line row) (at row) 0) x
+          (hold.words row l c h hl hc) (hold.words row l j h hl hj) (done.pivot_words row j h hj) (done.pivot_words row c h hc));
     }
   where
     w : ℕ → ℕ → ℕ → ℕ
-    w row l k = if nat_lt (first + j) (row_at d row l) && nat_le j k then eliminated_word p inverse (strips row) j (part_entry (line row) (whole_part (line row)) 0) l k else entry (strips row) l k
+    w row l k = if nat_lt (first + j) (row_at d row l) && nat_le j k then eliminated_word p inverse (strips row) j (part_entry (line row) (at row) 0) l k else entry (strips row) l k
 
 -- rows that were solved, and then the product taken off the rows below them, are rows reduced
 pub solved-reduced : (p : ℕ) (inverse : ℕ → ℕ) (unit : Bool) (l f : ℕ → ℕ → ℕ) (first n m i c : ℕ) → first + n ≤ m → i < m → gained_rows p (p - 1) (λ i k. l i (first + k)) n (λ k c. solved_rows p inverse unit l first n f (first + k) c) (first + n) m (solved_rows p inverse unit l first n f) i c ≡ reduced p inverse unit l first n (λ r. f r c) i
@@ -386,13 +386,13 @@ unfolding came_from
 exchanges-held d width v first k f strips strips' map hi hj done hold = exchange-held d width (first + k) (pivot_row v (first + k)) (λ i c. exchanged v first k (λ r. f r c) i) strips strips' map hi hj done hold
 
 -- a column of a panel on strips: exchanged with the pivot's row, and then eliminated
-pub column-held : (d : RowMap) (width p : ℕ) (inverse : ℕ → ℕ) (first j r : ℕ) (s : Eliminated) (line : ℕ → Matrix) (strips swapped_strips strips' : ℕ → Matrix) → IsRowMap d → j < width → first + j < d.m → first + j ≤ r → r < d.m → s.words r (first + j) ≢ 0 → ((k : ℕ) → first + j ≤ k → k < r → s.words k (first + j) ≡ 0) → AreExchanged d width (first + j) r strips swapped_strips → AreEliminated d width p inverse (first + j) j (λ i c. s.words (swapped (first + j) r i) (first + c)) line swapped_strips strips' → Hold d width (λ i c. s.words i (first + c)) strips → Hold d width (λ i c. (eliminate_column p inverse d.m (first + j) s).words i (first + c)) strips' × ((eliminate_column p inverse d.m (first + j) s).pivots ≡ s.pivots ++ ((r + 1) ∷ []))
+pub column-held : (d : RowMap) (width p : ℕ) (inverse : ℕ → ℕ) (first j r : ℕ) (s : Eliminated) (line : ℕ → Matrix) (at : ℕ → Part) (strips swapped_strips strips' : ℕ → Matrix) → IsRowMap d → j < width → first + j < d.m → first + j ≤ r → r < d.m → s.words r (first + j) ≢ 0 → ((k : ℕ) → first + j ≤ k → k < r → s.words k (first + j) ≡ 0) → AreExchanged d width (first + j) r strips swapped_strips → AreEliminated d width p inverse (first + j) j (λ i c. s.words (swapped (first + j) r i) (first + c)) line at swapped_strips strips' → Hold d width (λ i c. s.words i (first + c)) strips → Hold d width (λ i c. (eliminate_column p inverse d.m (first + j) s).words i (first + c)) strips' × ((eliminate_column p inverse d.m (first + j) s).pivots ≡ s.pivots ++ ((r + 1) ∷ []))
 unfolding eliminate_column with_pivot
-column-held d width p inverse first j r s line strips swapped_strips strips' map hj hd from below nonzero none swaps done hold =
+column-held d width p inverse first j r s line at strips swapped_strips strips' map hj hd from below nonzero none swaps done hold =
     let found : pivot_from (λ i. s.words i (first + j)) (first + j) (d.m - (first + j)) ≡ Some r =
     pivot_from-some (λ i. s.words i (first + j)) (first + j) (d.m - (first + j)) r from (omega arith) nonzero none in
     let moved : Hold d width (λ i c. s.words (swapped (first + j) r i) (first + c)) swapped_strips = exchange-held d width (first + j) r (λ i c. s.words i (first + c)) strips swapped_strips map hd below swaps hold in
-    rw found ((eliminate-held d width p inverse first j (exchange (first + j) r s.words) line swapped_strips strips' map hj done moved, refl))
+    rw found ((eliminate-held d width p inverse first j (exchange (first + j) r s.words) line at swapped_strips strips' map hj done moved, refl))
 
 -- a column without a pivot stays
 pub column-without_pivot : (p : ℕ) (inverse : ℕ → ℕ) (m j : ℕ) (s : Eliminated) → j < m → ((k : ℕ) → j ≤ k → k < m → s.words k j ≡ 0) → ((eliminate_column p inverse m j s).words ≡ s.words) × ((eliminate_column p inverse m j s).pivots ≡ s.pivots ++ ((j + 1) ∷ []))
@@ -420,3 +420,112 @@ upper_block_row-held d width p inverse unit u f first n block bp left lp right r
     (λ i c _ _. upper_solved-reduced p inverse unit u f first n i c)
     (gain-held d width p (p - 1) (λ i k. u i (first + k)) n y h 0 first left lp right rp solved_strips strips' map gain
     (upper_solve-held d width p inverse unit u f first n block bp strips solved_strips map in_one solve hold))
+
+-- an exchange of a row with itself changes nothing
+pub exchanged-itself : (d : RowMap) (width i : ℕ) (strips : ℕ → Matrix) → AreExchanged d width i i strips strips
+exchanged-itself d width i strips =
+    record { rows = λ row h. refl; columns = λ row h. refl; first = λ c hc. refl; second = λ c hc. refl; others = λ row l c h hl hc other other'. refl }
+
+-- two rows of one process row change places in its strip
+pub exchanged-on_one : (d : RowMap) (width i j : ℕ) (f : ℕ → ℕ → ℕ) (strips strips' : ℕ → Matrix) → IsRowMap d → i < d.m → j < d.m → Hold d width f strips → row_owner d j ≡ row_owner d i → strips' (row_owner d i) ≡ with_rows_swapped (strips (row_owner d i)) (row_place d i) (row_place d j) → ((row : ℕ) → row < d.procs → row ≢ row_owner d i → strips' row ≡ strips row) → AreExchanged d width i j strips strips'
+exchanged-on_one d width i j f strips strips' map hi hj hold together made others =
+    record {
+      rows = λ row h. elim (cases_eq row o) [
+        | inl here ↦ ap (λ r. (strips' r).rows) here ∙ ap (λ m. m.rows) made ∙ rows-tabulate (strips o).rows (cols (strips o)) w ∙ ap (λ r. (strips r).rows) (sym here)
+        | inr other ↦ ap (λ m. m.rows) (others row h other)
+      ];
+      columns = λ row h. elim (cases_eq row o) [
+        | inl here ↦ ap (λ r. cols (strips' r)) here ∙ ap cols made ∙ cols-tabulate (strips o).rows (cols (strips o)) w ∙ ap (λ r. cols (strips r)) (sym here)
+        | inr other ↦ ap cols (others row h other)
+      ];
+      first = λ c hc. written (row_place d i) c (row_place-lt d i map hi) hc ∙ ap (λ l. entry (strips o) l c) (swapped-first (row_place d i) (row_place d j)) ∙ ap (λ r. entry (strips r) (row_place d j) c) (sym together);
+      second = λ c hc. ap (λ r. entry (strips' r) (row_place d j) c) together ∙ written (row_place d j) c (rw together at (row_place-lt d j map hj)) hc
+          ∙ ap (λ l. entry (strips o) l c) (swapped-second (row_place d i) (row_place d j));
+      others = λ row l c h hl hc not_first not_second. elim (cases_eq row o) [
+        | inl here ↦
+            ap (λ r. entry (strips' r) l c) here ∙ written l c (rw here at hl) hc
+            ∙ ap (λ k. entry (strips o) k c) (swapped-other (row_place d i) (row_place d j) l
+            (λ e. not_first (ap (λ r. row_at d r l) here ∙ ap (row_at d o) e ∙ row_at-owner d i map))
+            (λ e. not_second (ap (λ r. row_at d r l) (here ∙ sym together) ∙ ap (row_at d (row_owner d j)) e ∙ row_at-owner d j map)))
+            ∙ ap (λ r. entry (strips r) l c) (sym here)
+        | inr other ↦ ap (λ m. entry m l c) (others row h other)
+      ];
+    }
+  where
+    o : ℕ
+    o = row_owner d i
+
+    w : ℕ → ℕ → ℕ
+    w l c = entry (strips (row_owner d i)) (swapped (row_place d i) (row_place d j) l) c
+
+    written : (l c : ℕ) → l < rows_below d d.m (row_owner d i) → c < width → entry (strips' (row_owner d i)) l c ≡ entry (strips (row_owner d i)) (swapped (row_place d i) (row_place d j) l) c
+    written l c hl hc =
+        let rows : (strips (row_owner d i)).rows ≡ rows_below d d.m (row_owner d i) = hold.rows (row_owner d i) (row_owner-lt d i map) in
+        let columns : cols (strips (row_owner d i)) ≡ width = hold.columns (row_owner d i) (row_owner-lt d i map) in
+        ap (λ m. entry m l c) made ∙ entry-tabulate (strips (row_owner d i)).rows (cols (strips (row_owner d i))) w l c (rw rows hl) (rw columns hc)
+
+-- a row of a matrix that was written over by another
+copied-row : (a b m : Matrix) (sp : Part) (k width l c : ℕ) → b ≡ with_copy a (one_row k width) m sp → l < a.rows → c < cols a → c < width → l ≡ k → entry b l c ≡ part_entry m sp 0 c
+copied-row a b m sp k width l c e hl hc hw here =
+    let w : ℕ → ℕ → ℕ = λ i j. part_entry m sp (i - k) (j - 0) in
+    ap (λ x. entry x l c) e ∙ entry-tabulate a.rows (cols a) (patched (one_row k width) w (entry a)) l c hl hc
+    ∙ patched-inside (one_row k width) w (entry a) l c (omega arith) (omega arith) (omega arith) hw
+    ∙ ap (λ i. part_entry m sp i (c - 0)) (let z : l - k ≡ 0 = omega arith in z) ∙ ap (part_entry m sp 0) (let z : c - 0 ≡ c = omega arith in z)
+
+copied-other : (a b m : Matrix) (sp : Part) (k width l c : ℕ) → b ≡ with_copy a (one_row k width) m sp → l < a.rows → c < cols a → l ≢ k → entry b l c ≡ entry a l c
+copied-other a b m sp k width l c e hl hc other =
+    let w : ℕ → ℕ → ℕ = λ i j. part_entry m sp (i - k) (j - 0) in
+    ap (λ x. entry x l c) e ∙ entry-tabulate a.rows (cols a) (patched (one_row k width) w (entry a)) l c hl hc
+    ∙ patched-outside (one_row k width) w (entry a) l c (elim (cases_lt l k) [ inl before ↦ inl before | inr from ↦ inr (omega arith) ])
+
+-- rows of two process rows change places, as each strip gets the other's row
+pub exchanged-on_two : (d : RowMap) (width i j : ℕ) (f : ℕ → ℕ → ℕ) (m m' : Matrix) (sp sp' : Part) (strips strips' : ℕ → Matrix) → IsRowMap d → i < d.m → j < d.m → Hold d width f strips → row_owner d j ≢ row_owner d i → strips' (row_owner d i) ≡ with_copy (strips (row_owner d i)) (one_row (row_place d i) width) m sp → strips' (row_owner d j) ≡ with_copy (strips (row_owner d j)) (one_row (row_place d j) width) m' sp' → ((c : ℕ) → c < width → part_entry m sp 0 c ≡ entry (strips (row_owner d j)) (row_place d j) c) → ((c : ℕ) → c < width → part_entry m' sp' 0 c ≡ entry (strips (row_owner d i)) (row_place d i) c) → ((row : ℕ) → row < d.procs → row ≢ row_owner d i → row ≢ row_owner d j → strips' row ≡ strips row) → AreExchanged d width i j strips strips'
+exchanged-on_two d width i j f m m' sp sp' strips strips' map hi hj hold apart made made' words words' others =
+    record {
+      rows = λ row h. elim (cases_eq row (row_owner d i)) [
+        | inl here ↦ ap (λ r. (strips' r).rows) here ∙ ap (λ x. x.rows) made ∙ rows-with_part (strips (row_owner d i)) (one_row (row_place d i) width) w ∙ ap (λ r. (strips r).rows) (sym here)
+        | inr not_first ↦
+            (elim (cases_eq row (row_owner d j)) [
+              | inl here ↦ ap (λ r. (strips' r).rows) here ∙ ap (λ x. x.rows) made' ∙ rows-with_part (strips (row_owner d j)) (one_row (row_place d j) width) w' ∙ ap (λ r. (strips r).rows) (sym here)
+              | inr not_second ↦ ap (λ x. x.rows) (others row h not_first not_second)
+            ])
+      ];
+      columns = λ row h. elim (cases_eq row (row_owner d i)) [
+        | inl here ↦ ap (λ r. cols (strips' r)) here ∙ ap cols made ∙ cols-with_part (strips (row_owner d i)) (one_row (row_place d i) width) w ∙ ap (λ r. cols (strips r)) (sym here)
+        | inr not_first ↦
+            (elim (cases_eq row (row_owner d j)) [
+              | inl here ↦ ap (λ r. cols (strips' r)) here ∙ ap cols made' ∙ cols-with_part (strips (row_owner d j)) (one_row (row_place d j) width) w' ∙ ap (λ r. cols (strips r)) (sym here)
+              | inr not_second ↦ ap cols (others row h not_first not_second)
+            ])
+      ];
+      first = λ c hc. copied-row (strips (row_owner d i)) (strips' (row_owner d i)) m sp (row_place d i) width (row_place d i) c made (inside i hi) (across i c hc) hc refl ∙ words c hc;
+      second = λ c hc. copied-row (strips (row_owner d j)) (strips' (row_owner d j)) m' sp' (row_place d j) width (row_place d j) c made' (inside j hj) (across j c hc) hc refl ∙ words' c hc;
+      others = λ row l c h hl hc not_i not_j. elim (cases_eq row (row_owner d i)) [
+        | inl here ↦
+            ap (λ r. entry (strips' r) l c) here
+            ∙ copied-other (strips (row_owner d i)) (strips' (row_owner d i)) m sp (row_place d i) width l c made (rw (hold.rows (row_owner d i) (row_owner-lt d i map)) (rw here at hl)) (across i c hc)
+            (λ e. not_i (ap (λ r. row_at d r l) here ∙ ap (row_at d (row_owner d i)) e ∙ row_at-owner d i map))
+            ∙ ap (λ r. entry (strips r) l c) (sym here)
+        | inr not_first ↦
+            (elim (cases_eq row (row_owner d j)) [
+              | inl here ↦
+                  ap (λ r. entry (strips' r) l c) here
+                  ∙ copied-other (strips (row_owner d j)) (strips' (row_owner d j)) m' sp' (row_place d j) width l c made' (rw (hold.rows (row_owner d j) (row_owner-lt d j map)) (rw here at hl)) (across j c hc)
+                  (λ e. not_j (ap (λ r. row_at d r l) here ∙ ap (row_at d (row_owner d j)) e ∙ row_at-owner d j map))
+                  ∙ ap (λ r. entry (strips r) l c) (sym here)
+              | inr not_second ↦ ap (λ x. entry x l c) (others row h not_first not_second)
+            ])
+      ];
+    }
+  where
+    w : ℕ → ℕ → ℕ
+    w a b = part_entry m sp (a - row_place d i) (b - 0)
+
+    w' : ℕ → ℕ → ℕ
+    w' a b = part_entry m' sp' (a - row_place d j) (b - 0)
+
+    inside : (k : ℕ) → k < d.m → row_place d k < (strips (row_owner d k)).rows
+    inside k hk = rw (hold.rows (row_owner d k) (row_owner-lt d k map)) (row_place-lt d k map hk)
+
+    across : (k c : ℕ) → c < width → c < cols (strips (row_owner d k))
+    across k c hc = rw (hold.columns (row_owner d k) (row_owner-lt d k map)) hc

@@ -3,7 +3,7 @@
 use Rattle.std.specs.Prelude.{◌≡◌, ◌≢◌, ℕ, ◌+◌, ◌-◌, ◌*◌, ◌%◌, ◌<◌, ◌≤◌, ◌&&◌, if◌then◌else◌, nat_lt, nat_le, Bool}
 use Rattle.run_data.specs.declared.matrix.Part.{Part}
 use Rattle.run_data.specs.Matrix.{Matrix, cols, entry}
-use Rattle.run_data.specs.Parts.{part_entry, whole_part}
+use Rattle.run_data.specs.Parts.{part_entry}
 use Rattle.local_blas.specs.Kernels.{with_product, with_solved_lower, with_solved_upper, with_eliminated}
 use Rattle.array_desc.specs.Maps.{owner, local, global, numroc}
 use Rattle.elimination.specs.Panels.{solved}
@@ -100,7 +100,11 @@ pub record HaveGained (d : RowMap) (width : ℕ) (p a : ℕ) (l : ℕ → ℕ �
   pub left_words : (row i k : ℕ) → row < d.procs → rows_below d lo row + i < rows_below d hi row → k < n → part_entry (left row) (lp row) i k ≡ l (row_at d row (rows_below d lo row + i)) k
   pub right_words : (row k c : ℕ) → row < d.procs → k < n → c < width → part_entry (right row) (rp row) k c ≡ y k c
 
--- column j of each strip was eliminated in its rows below row `above`, by a row with the words of that row
-pub record AreEliminated (d : RowMap) (width : ℕ) (p : ℕ) (inverse : ℕ → ℕ) (above j : ℕ) (f : ℕ → ℕ → ℕ) (line : ℕ → Matrix) (strips strips' : ℕ → Matrix) : Type 0 where
-  pub made : (row : ℕ) → row < d.procs → strips' row ≡ with_eliminated p inverse (strips row) (λ l. nat_lt above (row_at d row l)) j (line row) (whole_part (line row))
-  pub pivot_words : (row c : ℕ) → row < d.procs → c < width → entry (line row) 0 c ≡ f above c
+-- column j of each strip was eliminated in its rows below row `above`, by a part of one row with the words of that row
+pub record AreEliminated (d : RowMap) (width : ℕ) (p : ℕ) (inverse : ℕ → ℕ) (above j : ℕ) (f : ℕ → ℕ → ℕ) (line : ℕ → Matrix) (at : ℕ → Part) (strips strips' : ℕ → Matrix) : Type 0 where
+  pub made : (row : ℕ) → row < d.procs → strips' row ≡ with_eliminated p inverse (strips row) (λ l. nat_lt above (row_at d row l)) j (line row) (at row)
+  pub pivot_words : (row c : ℕ) → row < d.procs → c < width → part_entry (line row) (at row) 0 c ≡ f above c
+
+-- the part of one row of a strip
+abbrev pub one_row : ℕ → ℕ → Part
+one_row place width = record { r0 = place; r1 = place + 1; c0 = 0; c1 = width }
