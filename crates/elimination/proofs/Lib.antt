@@ -11,6 +11,7 @@ pub mod UpperLaws
 pub mod Pivots
 pub mod StripMaps
 pub mod StripLaws
+pub mod StripColumns
 mod Examples
 mod WholeExchanges
 mod WholeSteps

@@ -5,7 +5,7 @@ use Rattle.run_data.specs.declared.matrix.Part.{Part}
 use Rattle.run_data.specs.Matrix.{Matrix, cols, entry}
 use Rattle.run_data.specs.Parts.{part_entry}
 use Rattle.local_blas.specs.Kernels.{with_product, with_solved_lower, with_solved_upper, with_eliminated}
-use Rattle.array_desc.specs.Maps.{owner, local, global, numroc}
+use Rattle.array_desc.specs.Maps.{owner, local, global, numroc, block_in}
 use Rattle.elimination.specs.Panels.{solved}
 use Rattle.elimination.specs.Solves.{upper_solved, gained}
 
@@ -108,3 +108,7 @@ pub record AreEliminated (d : RowMap) (width : ℕ) (p : ℕ) (inverse : ℕ →
 -- the part of one row of a strip
 abbrev pub one_row : ℕ → ℕ → Part
 one_row place width = record { r0 = place; r1 = place + 1; c0 = 0; c1 = width }
+
+-- the global column of process column q in a group, at column c of its strip: block columns of nb columns on procs process columns, of which src holds the first
+abbrev pub group_column : ℕ → ℕ → ℕ → ℕ → ℕ → ℕ → ℕ
+group_column group nb src procs c q = block_in group q src procs * nb + c

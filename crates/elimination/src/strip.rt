@@ -5,15 +5,18 @@
 //! of the global row and of the strip's column. The same laws serve a panel, an exchange of rows,
 //! a block row of a solve and an update, on every process column.
 
-ghost use Rattle.std.specs.Prelude.{◌≡◌, ◌≢◌, ℕ, suc, ◌+◌, ◌-◌, ◌<◌, ◌≤◌, Bool, List, [], ◌∷◌, ◌++◌};
+ghost use Rattle.std.specs.Prelude.{◌≡◌, ◌≢◌, ℕ, suc, ◌+◌, ◌-◌, ◌*◌, ◌%◌, ◌<◌, ◌≤◌, Bool, List, [], ◌∷◌, ◌++◌};
+ghost use Rattle.field_core.specs.Sums.{sum_to};
 ghost use Rattle.run_data.specs.declared.matrix.Part.{Part};
 ghost use Rattle.run_data.specs.Matrix.{Matrix, cols, entry};
 ghost use Rattle.run_data.specs.Parts.{part_entry, with_copy};
 ghost use Rattle.local_blas.specs.Kernels.{swapped, with_rows_swapped};
+ghost use Rattle.array_desc.specs.Maps.{group_of};
 ghost use Rattle.serial_model.specs.Elimination.{Eliminated, eliminate_column, pivot_row, exchange, exchanged};
 ghost use Rattle.elimination.specs.Panels.{reduced};
 ghost use Rattle.elimination.specs.Solves.{upper_reduced};
-ghost use Rattle.elimination.specs.Strips.{RowMap, IsRowMap, IsBlock, rows_below, row_owner, row_place, Hold, held, AreExchanged, solved_rows, upper_solved_rows, gained_rows, AreSolved, AreUpperSolved, HaveGained, AreEliminated, one_row};
+ghost use Rattle.elimination.specs.CodeLaw.{IsWeightedSum, IsOwn, IsOutside};
+ghost use Rattle.elimination.specs.Strips.{RowMap, IsRowMap, IsBlock, rows_below, row_at, group_column, row_owner, row_place, Hold, held, AreExchanged, solved_rows, upper_solved_rows, gained_rows, AreSolved, AreUpperSolved, HaveGained, AreEliminated, one_row};
 
 /// Strips of the right shape hold the words that are read at their owners.
 pub fn strips_hold_their_words()
@@ -24,6 +27,45 @@ pub fn strips_hold_their_words()
 /// The words that strips hold are no others than those that are read at their owners.
 pub fn strips_hold_no_other_words()
     ensures { (d : RowMap) (width : ℕ) (f : ℕ → ℕ → ℕ) (strips : ℕ → Matrix) (i c : ℕ) → IsRowMap d → Hold d width f strips → i < d.m → c < width → held d strips i c ≡ f i c }
+{
+}
+
+/// A word of the column is what its owner holds.
+pub fn owners_hold_the_column()
+    ensures { (d : RowMap) (width : ℕ) (f : ℕ → ℕ → ℕ) (strips : ℕ → Matrix) (i c : ℕ) → IsRowMap d → Hold d width f strips → i < d.m → c < width → entry (strips (row_owner d i)) (row_place d i) c ≡ f i c }
+{
+}
+
+/// Where no process row has a word that is not 0 between two global rows of a column, there is
+/// none: so the least of what the process rows find is the first of the column.
+pub fn process_rows_see_the_column()
+    ensures { (d : RowMap) (width : ℕ) (f : ℕ → ℕ → ℕ) (strips : ℕ → Matrix) (lo hi c : ℕ) → IsRowMap d → Hold d width f strips → hi ≤ d.m → c < width → ((row l : ℕ) → row < d.procs → l < rows_below d d.m row → lo ≤ row_at d row l → row_at d row l < hi → entry (strips row) l c ≡ 0) → (i : ℕ) → lo ≤ i → i < hi → f i c ≡ 0 }
+{
+}
+
+/// Weighted sums at each place of the strips are weighted sums of the columns.
+pub fn strips_give_weighted_sums()
+    ensures { (d : RowMap) (p n : ℕ) (w : ℕ → ℕ) (strips : ℕ → ℕ → Matrix) (code : ℕ → Matrix) (c : ℕ) → IsRowMap d → ((row l : ℕ) → row < d.procs → l < rows_below d d.m row → entry (code row) l c % p ≡ sum_to n (λ q. w q * entry (strips q row) l c) % p) → IsWeightedSum p n w (λ q i. held d (strips q) i c) (λ i. held d code i c) }
+{
+}
+
+/// Weighted sums of the columns are weighted sums at each place of the strips.
+pub fn weighted_sums_are_in_strips()
+    ensures { (d : RowMap) (p n : ℕ) (w : ℕ → ℕ) (strips : ℕ → ℕ → Matrix) (code : ℕ → Matrix) (c : ℕ) → IsRowMap d → IsWeightedSum p n w (λ q i. held d (strips q) i c) (λ i. held d code i c) → (row l : ℕ) → row < d.procs → l < rows_below d d.m row → entry (code row) l c % p ≡ sum_to n (λ q. w q * entry (strips q row) l c) % p }
+{
+}
+
+/// A group has no column in the block columns of other groups: at each column of its strips, its
+/// columns are outside a range of blocks that are not its own.
+pub fn groups_are_outside()
+    ensures { (group nb src procs c first last : ℕ) → c < nb → src < procs → ((block : ℕ) → first ≤ block → block < last → group_of block procs ≢ group) → IsOutside (first * nb) (last * nb) procs (group_column group nb src procs c) }
+{
+}
+
+/// A panel's own group has, at each column of its strips, one column in the panel: that of the
+/// panel's process column.
+pub fn own_group_has_the_panel()
+    ensures { (block nb src procs c : ℕ) → c < nb → src < procs → IsOwn (block * nb) nb procs ((src + block) % procs) (group_column (group_of block procs) nb src procs c) }
 {
 }
 

@@ -1,0 +1,101 @@
+-- From strips to columns: searches, weighted sums, and which columns a group has.
+use Rattle.std.proofs.Common.{◌≡◌, ◌≢◌, ℕ, zero, suc, ◌+◌, ◌-◌, ◌*◌, ◌/◌, ◌%◌, ◌<◌, ◌≤◌, ◌⊎◌, true, false, nat_lt, refl, sym, ◌∙◌, ap, arith, inl, inr}
+use Rattle.std.proofs.Math.Nat.{mod-lt}
+use Rattle.std.proofs.lemmas.Bool.{cases_lt, cases_eq, lt-ltb, le-ltb}
+use Rattle.std.proofs.lemmas.Nat.{mul-le}
+use Rattle.field_core.specs.Sums.{sum_to}
+use Rattle.field_core.proofs.Sums.{sum_to-same, sum_to-zero}
+use Rattle.run_data.specs.Matrix.{Matrix, entry}
+use Rattle.array_desc.specs.Maps.{owner, block_in, group_of}
+use Rattle.array_desc.proofs.GroupLaws.{owner-block_in, group_of-block_in, block_in-group_of}
+use Rattle.serial_model.specs.Elimination.{Eliminated}
+use Rattle.elimination.specs.CodeLaw.{IsWeightedSum, IsOwn, IsOutside}
+use Rattle.elimination.specs.Strips.{RowMap, IsRowMap, rows_below, row_at, row_owner, row_place, Hold, held, group_column}
+use Rattle.elimination.proofs.StripMaps.{row_owner-lt, row_at-owner, row_owner-at, row_place-at, row_place-lt, row_at-lt}
+
+-- a word that strips hold, at its owner
+pub held-at : (d : RowMap) (width : ℕ) (f : ℕ → ℕ → ℕ) (strips : ℕ → Matrix) (i c : ℕ) → IsRowMap d → Hold d width f strips → i < d.m → c < width → entry (strips (row_owner d i)) (row_place d i) c ≡ f i c
+held-at d width f strips i c map hold hi hc =
+    hold.words (row_owner d i) (row_place d i) c (row_owner-lt d i map) (row_place-lt d i map hi) hc ∙ ap (λ r. f r c) (row_at-owner d i map)
+
+-- what each process row sees of a column between two global rows, all of them see
+pub zeros-held : (d : RowMap) (width : ℕ) (f : ℕ → ℕ → ℕ) (strips : ℕ → Matrix) (lo hi c : ℕ) → IsRowMap d → Hold d width f strips → hi ≤ d.m → c < width → ((row l : ℕ) → row < d.procs → l < rows_below d d.m row → lo ≤ row_at d row l → row_at d row l < hi → entry (strips row) l c ≡ 0) → (i : ℕ) → lo ≤ i → i < hi → f i c ≡ 0
+zeros-held d width f strips lo hi c map hold hm hc zeros i h1 h2 =
+    let at : row_at d (row_owner d i) (row_place d i) ≡ i = row_at-owner d i map in
+    sym (held-at d width f strips i c map hold (omega arith) hc)
+    ∙ zeros (row_owner d i) (row_place d i) (row_owner-lt d i map) (row_place-lt d i map (omega arith)) (omega arith) (omega arith)
+
+-- weighted sums in the strips are weighted sums of the columns
+pub weighted-held : (d : RowMap) (p n : ℕ) (w : ℕ → ℕ) (strips : ℕ → ℕ → Matrix) (code : ℕ → Matrix) (c : ℕ) → IsRowMap d → ((row l : ℕ) → row < d.procs → l < rows_below d d.m row → entry (code row) l c % p ≡ sum_to n (λ q. w q * entry (strips q row) l c) % p) → IsWeightedSum p n w (λ q i. held d (strips q) i c) (λ i. held d code i c)
+weighted-held d p n w strips code c map sums =
+    record {
+      at = λ i. elim (cases_lt i d.m) [
+        | inl inside ↦
+            (let t : nat_lt i d.m ≡ true = lt-ltb i d.m inside in
+            simp t (sums (row_owner d i) (row_place d i) (row_owner-lt d i map) (row_place-lt d i map inside)))
+        | inr past ↦
+            (let t : nat_lt i d.m ≡ false = le-ltb i d.m past in
+            simp t (ap (λ s. s % p) (sym (sum_to-same n (λ q. w q * 0) (λ q. 0) (λ q _. nothing (w q)) ∙ sum_to-zero n))))
+      ];
+    }
+  where
+    nothing : (x : ℕ) → x * 0 ≡ 0
+    nothing x = omega arith
+
+-- and the other way round
+pub weighted-strips : (d : RowMap) (p n : ℕ) (w : ℕ → ℕ) (strips : ℕ → ℕ → Matrix) (code : ℕ → Matrix) (c : ℕ) → IsRowMap d → IsWeightedSum p n w (λ q i. held d (strips q) i c) (λ i. held d code i c) → (row l : ℕ) → row < d.procs → l < rows_below d d.m row → entry (code row) l c % p ≡ sum_to n (λ q. w q * entry (strips q row) l c) % p
+weighted-strips d p n w strips code c map sums row l h hl =
+    let g = row_at d row l in
+    let t : nat_lt g d.m ≡ true = lt-ltb g d.m (row_at-lt d row l map h hl) in
+    let place : (x : ℕ → Matrix) → held d x g c ≡ entry (x row) l c =
+    λ x. (rw t (ap (λ r. entry (x r) (row_place d g) c) (row_owner-at d row l map h) ∙ ap (λ k. entry (x row) k c) (row_place-at d row l map))) in
+    ap (λ s. s % p) (sym (place code)) ∙ sums.at g
+    ∙ ap (λ s. s % p) (sum_to-same n (λ q. w q * held d (strips q) g c) (λ q. w q * entry (strips q row) l c) (λ q _. ap (λ y. w q * y) (place (strips q))))
+
+-- a column of a block before block e is before column e * nb, and one of a later block is not
+before_block : (b e nb c : ℕ) → c < nb → b < e → b * nb + c < e * nb
+before_block b e nb c hc h =
+    let more : (b + 1) * nb ≤ e * nb = mul-le (b + 1) nb e nb (omega arith) (omega arith) in
+    let split : (b + 1) * nb ≡ b * nb + nb = omega arith in
+    omega arith
+
+from_block : (b e nb c : ℕ) → e ≤ b → e * nb ≤ b * nb + c
+from_block b e nb c h =
+    let more : e * nb ≤ b * nb = mul-le e nb b nb h (omega arith) in
+    omega arith
+
+-- the columns of a group are outside the block columns of other groups
+pub group-outside : (group nb src procs c first last : ℕ) → c < nb → src < procs → ((block : ℕ) → first ≤ block → block < last → group_of block procs ≢ group) → IsOutside (first * nb) (last * nb) procs (group_column group nb src procs c)
+group-outside group nb src procs c first last hc hs others =
+    record {
+      outside = λ q hq.
+          (let b = block_in group q src procs in
+          elim (cases_lt b first) [
+            | inl before ↦ inl (before_block b first nb c hc before)
+            | inr from ↦
+                (elim (cases_lt b last) [
+                  | inl among ↦ absurd (others b from among (group_of-block_in group q src procs (omega arith)))
+                  | inr past ↦ inr (from_block b last nb c past)
+                ])
+          ]);
+    }
+
+-- the panel's own group has one column in it, on the panel's process column
+pub group-own : (block nb src procs c : ℕ) → c < nb → src < procs → IsOwn (block * nb) nb procs ((src + block) % procs) (group_column (group_of block procs) nb src procs c)
+group-own block nb src procs c hc hs =
+    let at = (src + block) % procs in
+    let mine : block_in (group_of block procs) at src procs ≡ block = block_in-group_of block src procs hs in
+    let column : group_column (group_of block procs) nb src procs c at ≡ block * nb + c = ap (λ b. b * nb + c) mine in
+    record {
+      is_column = mod-lt (src + block) (omega arith);
+      from = rw column (omega arith);
+      before = rw column (omega arith);
+      others = λ q hq other.
+          (let b = block_in (group_of block procs) q src procs in
+          let own : (src + b) % procs ≡ q = owner-block_in (group_of block procs) q src procs hs hq in
+          let apart : b ≢ block = (λ e. other (sym own ∙ ap (λ k. (src + k) % procs) e)) in
+          elim (cases_lt b block) [
+            | inl before ↦ inl (before_block b block nb c hc before)
+            | inr from ↦ inr (let past : (block + 1) * nb ≤ b * nb + c = from_block b (block + 1) nb c (omega arith) in let split : (block + 1) * nb ≡ block * nb + nb = omega arith in omega arith)
+          ]);
+    }
