@@ -376,3 +376,33 @@ close-coded p n at w stage stage' d x code low open_words code' low' h opened cl
 pub merge-coded : (p n : ℕ) (w : ℕ → ℕ) (stage : ℕ → Stage) (d : ℕ → ℕ) (x : ℕ → ℕ → ℕ) (code low code' : ℕ → ℕ) → ((i : ℕ) → code' i % p ≡ (code i + low i) % p) → IsCoded p n w stage d x code low (λ i. 0) → IsWeightedSum p n w x code'
 merge-coded p n w stage d x code low code' new law =
     record { at = λ i. new i ∙ ap (λ n. n % p) (let e : code i + low i ≡ code i + low i + 0 = omega arith in e) ∙ (coded-whole p n w stage d x code low (λ i. 0) law).at i }
+
+-- what two sums have in common may be taken off both
+taken-off : (p a b c : ℕ) → 0 < p → (a + b) % p ≡ (c + b) % p → a % p ≡ c % p
+taken-off p a b c pos_p e =
+    let one : (p - 1) + 1 ≡ p = omega arith in
+    let times : ((p - 1) + 1) * b ≡ p * b = ap (λ n. n * b) one in
+    same_mod p a (a + b + (p - 1) * b) b 0 (omega arith) ∙ same_sum p (a + b) (c + b) ((p - 1) * b) ((p - 1) * b) e refl ∙ sym (same_mod p c (c + b + (p - 1) * b) b 0 (omega arith))
+
+-- the law follows from the whole sum, and what Low and Open hold
+pub coded-from_whole : (p n : ℕ) (w : ℕ → ℕ) (stage : ℕ → Stage) (d : ℕ → ℕ) (x : ℕ → ℕ → ℕ) (code low open_words : ℕ → ℕ) → 0 < p → IsWeightedSum p n w x (λ i. code i + low i + open_words i) → IsWeightedSum p n w (λ q. low_part (stage q) (d q) (x q)) low → IsWeightedSum p n w (λ q. open_part (stage q) (d q) (x q)) open_words → IsCoded p n w stage d x code low open_words
+coded-from_whole p n w stage d x code low open_words pos_p whole low_sum open_sum =
+    record {
+      code_is = λ i.
+          (let cf : ℕ → ℕ = λ q. w q * code_part (stage q) (d q) (x q) i in
+          let lf : ℕ → ℕ = λ q. w q * low_part (stage q) (d q) (x q) i in
+          let of : ℕ → ℕ = λ q. w q * open_part (stage q) (d q) (x q) i in
+          let parts : sum_to n (λ q. w q * x q i) ≡ sum_to n cf + (sum_to n lf + sum_to n of) =
+          sum_to-same n (λ q. w q * x q i) (λ q. cf q + (lf q + of q))
+          (λ q _. ap (λ y. w q * y) (sym (parts-whole (stage q) (d q) (x q) i)) ∙ spread (w q) (code_part (stage q) (d q) (x q) i) (low_part (stage q) (d q) (x q) i) (open_part (stage q) (d q) (x q) i))
+          ∙ sum_to-add n cf (λ q. lf q + of q) ∙ ap (λ s. sum_to n cf + s) (sum_to-add n lf of) in
+          let rest : (low i + open_words i) % p ≡ (sum_to n lf + sum_to n of) % p = same_sum p (low i) (sum_to n lf) (open_words i) (sum_to n of) (low_sum.at i) (open_sum.at i) in
+          taken-off p (code i) (sum_to n lf + sum_to n of) (sum_to n cf) pos_p
+          (sym (same_sum p (code i) (code i) (low i + open_words i) (sum_to n lf + sum_to n of) refl rest)
+          ∙ ap (λ s. s % p) (let e : code i + (low i + open_words i) ≡ code i + low i + open_words i = omega arith in e) ∙ whole.at i ∙ ap (λ s. s % p) parts));
+      low_is = low_sum.at;
+      open_is = open_sum.at;
+    }
+  where
+    spread : (w a b c : ℕ) → w * (a + b + c) ≡ w * a + (w * b + w * c)
+    spread w a b c = omega arith

@@ -1,4 +1,4 @@
-use Rattle.std.proofs.Common.{◌≡◌, ℕ, zero, suc, ◌+◌, ◌-◌, ◌*◌, ◌%◌, ◌<◌, ◌≤◌, min, true, false, nat_lt, List, refl, sym, ◌∙◌, ap, arith, inl, inr}
+use Rattle.std.proofs.Common.{◌≡◌, ℕ, zero, suc, ◌+◌, ◌-◌, ◌*◌, ◌<◌, ◌≤◌, min, true, false, nat_lt, List, refl, sym, ◌∙◌, ap, arith, inl, inr}
 use Rattle.std.proofs.Math.Path.{fun_ext}
 use Rattle.std.proofs.lemmas.Bool.{cases_lt, lt-ltb, le-ltb}
 use Rattle.local_blas.specs.Kernels.{swapped}
@@ -190,3 +190,15 @@ column-carried_by p inverse m first n s l v i k h ready panel hk =
 pub column-exchanged_by : (p : ℕ) (inverse : ℕ → ℕ) (m first n : ℕ) (s : Eliminated) (l : ℕ → ℕ → ℕ) (v : List ℕ) (i k : ℕ) → first + n ≤ m → IsReady p m first s → IsPanel first n (eliminate_columns p inverse m first n s) l v → k < first → (eliminate_columns p inverse m first n s).words i k ≡ exchanged v first n (λ r. s.words r k) i
 column-exchanged_by p inverse m first n s l v i k h ready panel hk =
     columns-left p inverse m first n s i k h ready hk ∙ sym (exchanged-panel first n (eliminate_columns p inverse m first n s) l v (λ r. s.words r k) i panel)
+
+-- the pivots of later columns leave those of a panel as they are
+pivots-later : (p : ℕ) (inverse : ℕ → ℕ) (m first n k : ℕ) (s : Eliminated) (j : ℕ) → first + (n + k) ≤ m → IsReady p m first s → j < first + n → pivot_row (eliminate_columns p inverse m first (n + k) s).pivots j ≡ pivot_row (eliminate_columns p inverse m first n s).pivots j
+pivots-later p inverse m first n zero s j h ready hj = ap (λ c. pivot_row (eliminate_columns p inverse m first c s).pivots j) (let e : n + 0 ≡ n = omega arith in e)
+pivots-later p inverse m first n (suc k) s j h ready hj =
+    let next : n + suc k ≡ suc (n + k) = omega arith in
+    let st : IsStep p m (first + (n + k)) (eliminate_columns p inverse m first (n + k) s) (eliminate_columns p inverse m first (suc (n + k)) s) = step-at p inverse m first (n + k) s (omega arith) ready in
+    ap (λ c. pivot_row (eliminate_columns p inverse m first c s).pivots j) next ∙ st.earlier j (omega arith) ∙ pivots-later p inverse m first n k s j (omega arith) ready hj
+
+-- so a longer list serves a panel as well
+pub panel-later : (p : ℕ) (inverse : ℕ → ℕ) (m first n k : ℕ) (s : Eliminated) → first + (n + k) ≤ m → IsReady p m first s → IsPanel first n (eliminate_columns p inverse m first n s) (eliminate_columns p inverse m first n s).words (eliminate_columns p inverse m first (n + k) s).pivots
+panel-later p inverse m first n k s h ready = record { words = λ i c _ _. refl; pivots = λ j _ hj. pivots-later p inverse m first n k s j h ready hj }

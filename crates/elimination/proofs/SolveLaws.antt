@@ -1,11 +1,11 @@
-use Rattle.std.proofs.Common.{◌≡◌, ℕ, zero, suc, ◌+◌, ◌-◌, ◌*◌, ◌%◌, ◌<◌, ◌≤◌, Bool, true, false, nat_lt, List, refl, sym, ◌∙◌, ap, arith, inl, inr}
+use Rattle.std.proofs.Common.{◌≡◌, ℕ, suc, ◌+◌, ◌-◌, ◌*◌, ◌%◌, ◌<◌, Bool, true, false, List, sym, ◌∙◌, ap, arith, inl, inr}
 use Rattle.std.proofs.Math.Path.{fun_ext}
 use Rattle.std.proofs.Math.Nat.{mod-mod}
-use Rattle.std.proofs.lemmas.Bool.{cases_lt, lt-ltb, le-ltb}
+use Rattle.std.proofs.lemmas.Bool.{cases_lt}
 use Rattle.std.proofs.lemmas.Nat.{mul-mod_second}
 use Rattle.field_core.specs.Sums.{sum_to}
 use Rattle.field_core.proofs.Modular.{same_scaled}
-use Rattle.field_core.proofs.Sums.{sum_to-same, sum_to-same_mod, sum_to-scale, sum_to-none, sum_to-suc, sum_to-split}
+use Rattle.field_core.proofs.Sums.{sum_to-same, sum_to-same_mod, sum_to-scale}
 use Rattle.local_blas.specs.Kernels.{solution, upper_solution}
 use Rattle.local_blas.proofs.Products.{product-split}
 use Rattle.local_blas.proofs.SolutionLaws.{solution-weighted, solution-block}

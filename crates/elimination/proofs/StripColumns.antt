@@ -1,15 +1,15 @@
 -- From strips to columns: searches, weighted sums, and which columns a group has.
-use Rattle.std.proofs.Common.{◌≡◌, ◌≢◌, ℕ, zero, suc, ◌+◌, ◌-◌, ◌*◌, ◌/◌, ◌%◌, ◌<◌, ◌≤◌, ◌⊎◌, true, false, nat_lt, refl, sym, ◌∙◌, ap, arith, inl, inr}
+use Rattle.std.proofs.Common.{◌≡◌, ◌≢◌, ℕ, ◌+◌, ◌*◌, ◌%◌, ◌<◌, ◌≤◌, true, false, nat_lt, sym, ◌∙◌, ap, arith, inl, inr}
 use Rattle.std.proofs.Math.Nat.{mod-lt}
-use Rattle.std.proofs.lemmas.Bool.{cases_lt, cases_eq, lt-ltb, le-ltb}
+use Rattle.std.proofs.lemmas.Bool.{cases_lt, lt-ltb, le-ltb}
 use Rattle.std.proofs.lemmas.Nat.{mul-le}
 use Rattle.field_core.specs.Sums.{sum_to}
 use Rattle.field_core.proofs.Sums.{sum_to-same, sum_to-zero}
 use Rattle.run_data.specs.Matrix.{Matrix, entry}
-use Rattle.array_desc.specs.Maps.{owner, block_in, group_of}
+use Rattle.array_desc.specs.Maps.{block_in, group_of}
 use Rattle.array_desc.proofs.GroupLaws.{owner-block_in, group_of-block_in, block_in-group_of}
-use Rattle.serial_model.specs.Elimination.{Eliminated}
-use Rattle.elimination.specs.CodeLaw.{IsWeightedSum, IsOwn, IsOutside}
+use Rattle.elimination.specs.CodeLaw.{IsWeightedSum, IsOwn, IsOutside, Ahead, Open, Closed, stage_at}
+use Rattle.elimination.proofs.Stages.{stage_at-closed, stage_at-open, stage_at-ahead}
 use Rattle.elimination.specs.Strips.{RowMap, IsRowMap, rows_below, row_at, row_owner, row_place, Hold, held, group_column}
 use Rattle.elimination.proofs.StripMaps.{row_owner-lt, row_at-owner, row_owner-at, row_place-at, row_place-lt, row_at-lt}
 
@@ -99,3 +99,15 @@ group-own block nb src procs c hc hs =
             | inr from ↦ inr (let past : (block + 1) * nb ≤ b * nb + c = from_block b (block + 1) nb c (omega arith) in let split : (block + 1) * nb ≡ block * nb + nb = omega arith in omega arith)
           ]);
     }
+
+-- the stage of a column follows from its block
+pub stages-by_block : (k nb b c : ℕ) → c < nb → (b < k → (opened : ℕ) → stage_at (k * nb) opened (b * nb + c) ≡ Closed) × (b ≡ k → stage_at (k * nb) nb (b * nb + c) ≡ Open) × (k ≤ b → stage_at (k * nb) 0 (b * nb + c) ≡ Ahead) × (k < b → stage_at (k * nb) nb (b * nb + c) ≡ Ahead)
+stages-by_block k nb b c hc = (
+  λ h opened. stage_at-closed (k * nb) opened (b * nb + c) (before_block b k nb c hc h),
+  λ e. (let same : b * nb ≡ k * nb = ap (λ m. m * nb) e in stage_at-open (k * nb) nb (b * nb + c) (omega arith) (omega arith)),
+  λ h. (let far : k * nb ≤ b * nb + c = from_block b k nb c h in stage_at-ahead (k * nb) 0 (b * nb + c) (omega arith)),
+  λ h.
+      (let far : (k + 1) * nb ≤ b * nb + c = from_block b (k + 1) nb c (omega arith) in
+      let split : (k + 1) * nb ≡ k * nb + nb = omega arith in
+      stage_at-ahead (k * nb) nb (b * nb + c) (omega arith)),
+)

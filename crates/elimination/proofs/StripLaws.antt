@@ -1,6 +1,6 @@
 -- What is done to the strips of a block column, as a change of the words that they hold.
-use Rattle.std.proofs.Common.{◌≡◌, ◌≢◌, ℕ, suc, ◌+◌, ◌-◌, ◌*◌, ◌%◌, ◌<◌, ◌≤◌, ◌⊎◌, ◌==◌, ◌&&◌, if◌then◌else◌, nat_lt, nat_le, Bool, true, false, Some, None, List, [], ◌∷◌, ◌++◌, refl, sym, ◌∙◌, ap, arith, inl, inr, eq-eqb}
-use Rattle.std.proofs.lemmas.Bool.{cases_lt, cases_eq, lt-ltb, le-ltb, ne_eqb}
+use Rattle.std.proofs.Common.{◌≡◌, ◌≢◌, ℕ, suc, ◌+◌, ◌-◌, ◌*◌, ◌%◌, ◌<◌, ◌≤◌, ◌⊎◌, ◌&&◌, if◌then◌else◌, nat_lt, nat_le, Bool, true, false, Some, None, List, [], ◌∷◌, ◌++◌, refl, sym, ◌∙◌, ap, arith, inl, inr}
+use Rattle.std.proofs.lemmas.Bool.{cases_lt, cases_eq, lt-ltb, le-ltb}
 use Rattle.std.proofs.lemmas.Bool.Decides.{nat_tests}
 use Rattle.field_core.specs.Sums.{sum_to}
 use Rattle.field_core.proofs.Sums.{sum_to-same}
@@ -9,7 +9,7 @@ use Rattle.run_data.specs.Matrix.{Matrix, cols, entry}
 use Rattle.run_data.specs.Parts.{patched, with_part, part_entry, with_copy}
 use Rattle.run_data.proofs.Matrices.{rows-tabulate, cols-tabulate, entry-tabulate}
 use Rattle.run_data.proofs.PartLaws.{rows-with_part, cols-with_part}
-use Rattle.local_blas.specs.Kernels.{solution, upper_solution, from_last, swapped, eliminated_word, multiplier, with_product, with_solved_lower, with_solved_upper, with_eliminated, with_rows_swapped, product_word}
+use Rattle.local_blas.specs.Kernels.{solution, upper_solution, swapped, eliminated_word, multiplier, with_rows_swapped, product_word}
 use Rattle.local_blas.proofs.Eliminations.{eliminated_word-first, eliminated_word-later}
 use Rattle.serial_model.specs.Elimination.{exchange, divide, subtract, pivot_from, with_pivot, Eliminated, eliminate_column, pivot_row, came_from, exchanged}
 use Rattle.elimination.specs.Panels.{solved, reduced}

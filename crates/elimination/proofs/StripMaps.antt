@@ -1,8 +1,7 @@
 -- Local and global rows: which local rows a range of global rows is, and where the rows of a block lie.
-use Rattle.std.proofs.Common.{◌≡◌, ◌≢◌, ℕ, ◌+◌, ◌-◌, ◌*◌, ◌/◌, ◌%◌, ◌<◌, ◌≤◌, refl, sym, ◌∙◌, ap, arith, inl, inr}
+use Rattle.std.proofs.Common.{◌≡◌, ℕ, ◌+◌, ◌-◌, ◌*◌, ◌/◌, ◌%◌, ◌<◌, ◌≤◌, refl, sym, ◌∙◌, ap, arith, inl, inr}
 use Rattle.std.proofs.Math.Nat.{div-add-mod}
 use Rattle.std.proofs.lemmas.Bool.{cases_lt}
-use Rattle.array_desc.specs.Maps.{owner, local, global, numroc}
 use Rattle.array_desc.proofs.MapLaws.{owner-lt, global-local, owner-global, local-global, owner-in_block, local-in_block}
 use Rattle.array_desc.proofs.CountLaws.{numroc-reached, local-lt, global-lt}
 use Rattle.elimination.specs.Strips.{RowMap, IsRowMap, IsBlock, rows_below, row_at, row_owner, row_place}

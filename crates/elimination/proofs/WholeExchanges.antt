@@ -1,5 +1,5 @@
 -- The loop that exchanges rows of one matrix.
-use Rattle.std.proofs.Common.{◌≡◌, ℕ, suc, ◌+◌, ◌-◌, ◌<◌, List, length, refl, ◌∙◌, ap, arith, add-one, get_or}
+use Rattle.std.proofs.Common.{◌≡◌, ℕ, suc, ◌+◌, ◌-◌, ◌<◌, List, length, refl, ◌∙◌, ap, add-one, get_or}
 use Rattle.run_data.specs.Matrix.{Matrix, cols, entry, IsShaped, tabulate}
 use Rattle.run_data.proofs.Matrices.{tabulate_is, tabulate-same, rows-tabulate, cols-tabulate, entry-tabulate}
 use Rattle.local_blas.specs.Kernels.{swapped, with_rows_swapped}

@@ -1,6 +1,6 @@
 -- One column of a strip, as the kernels eliminate it.
-use Rattle.std.proofs.Common.{◌≡◌, ◌≢◌, List, [], ◌∷◌, ◌++◌, Some, None, subst, ℕ, zero, suc, ◌+◌, ◌-◌, ◌*◌, ◌%◌, ◌<◌, ◌≤◌, ◌==◌, nat_le, true, false, refl, sym, ◌∙◌, ap, arith, inl, inr, eq-eqb}
-use Rattle.std.proofs.lemmas.Bool.{cases_lt, cases_eq, ne_eqb}
+use Rattle.std.proofs.Common.{◌≡◌, ◌≢◌, List, [], ◌∷◌, ◌++◌, ℕ, ◌+◌, ◌-◌, ◌*◌, ◌%◌, ◌<◌, ◌≤◌, nat_le, refl, sym, ◌∙◌, ap, arith, inl, inr}
+use Rattle.std.proofs.lemmas.Bool.{cases_lt, cases_eq}
 use Rattle.std.proofs.lemmas.Bool.Decides.{nat_tests}
 use Rattle.run_data.specs.declared.matrix.Part.{Part}
 use Rattle.run_data.specs.Matrix.{Matrix, cols, entry, IsShaped, tabulate}
@@ -9,7 +9,7 @@ use Rattle.run_data.proofs.Matrices.{tabulate_is, tabulate-same, rows-tabulate, 
 use Rattle.local_blas.proofs.Eliminations.{eliminated_word-first, eliminated_word-later, first_row, with_eliminated_is}
 use Rattle.local_blas.proofs.Swaps.{swapped-below}
 use Rattle.local_blas.specs.Kernels.{AreWords, swapped, with_rows_swapped, with_eliminated, eliminated_word, multiplier}
-use Rattle.serial_model.specs.Elimination.{exchange, divide, subtract, pivot_from, with_pivot, eliminate_column}
+use Rattle.serial_model.specs.Elimination.{exchange, divide, subtract, with_pivot, eliminate_column}
 use Rattle.run_data.proofs.PartLaws.{AreWords-tabulate}
 use Rattle.elimination.proofs.Info.{swapped-first}
 use Rattle.elimination.proofs.Pivots.{pivot_from-none, pivot_from-some}

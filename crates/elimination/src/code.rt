@@ -7,7 +7,7 @@
 ghost use Rattle.std.specs.Prelude.{◌≡◌, ℕ, ◌+◌, ◌-◌, ◌*◌, ◌%◌, ◌<◌, ◌≤◌, List};
 ghost use Rattle.serial_model.specs.Elimination.{Eliminated, eliminate_columns, exchanged};
 ghost use Rattle.elimination.specs.Panels.{IsReady, IsPanel, carried};
-ghost use Rattle.elimination.specs.CodeLaw.{IsWeightedSum, upper, lower, IsCoded, Stage, Ahead, stage_at, between, IsOwn, IsOutside};
+ghost use Rattle.elimination.specs.CodeLaw.{IsWeightedSum, upper, lower, IsCoded, Stage, Ahead, Open, Closed, low_part, open_part, stage_at, between, IsOwn, IsOutside};
 
 /// What a panel does to a column keeps weighted sums.
 pub fn panel_is_linear()
@@ -67,4 +67,17 @@ pub fn merge_keeps_code()
 /// Code, Low and Open together are the weighted sum of the columns, under every mark.
 pub fn code_is_whole()
     ensures { (p n : ℕ) (w : ℕ → ℕ) (stage : ℕ → Stage) (d : ℕ → ℕ) (x : ℕ → ℕ → ℕ) (code low open_words : ℕ → ℕ) → IsCoded p n w stage d x code low open_words → IsWeightedSum p n w x (λ i. code i + low i + open_words i) }
+{}
+
+/// The law as a whole sum: it is enough that Code, Low and Open together are the weighted sum of
+/// the columns, that Low is the sum of what is below the diagonals of the closed panels, and that
+/// Open is the sum of the open panel.
+pub fn parts_give_the_code()
+    ensures { (p n : ℕ) (w : ℕ → ℕ) (stage : ℕ → Stage) (d : ℕ → ℕ) (x : ℕ → ℕ → ℕ) (code low open_words : ℕ → ℕ) → 0 < p → IsWeightedSum p n w x (λ i. code i + low i + open_words i) → IsWeightedSum p n w (λ q. low_part (stage q) (d q) (x q)) low → IsWeightedSum p n w (λ q. open_part (stage q) (d q) (x q)) open_words → IsCoded p n w stage d x code low open_words }
+{}
+
+/// The stage of a column follows from its block: `k` panels of `nb` columns are closed, and the
+/// next one is open or not.
+pub fn stages_follow_blocks()
+    ensures { (k nb b c : ℕ) → c < nb → (b < k → (opened : ℕ) → stage_at (k * nb) opened (b * nb + c) ≡ Closed) × (b ≡ k → stage_at (k * nb) nb (b * nb + c) ≡ Open) × (k ≤ b → stage_at (k * nb) 0 (b * nb + c) ≡ Ahead) × (k < b → stage_at (k * nb) nb (b * nb + c) ≡ Ahead) }
 {}

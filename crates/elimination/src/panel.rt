@@ -35,6 +35,12 @@ pub fn column_is_carried()
     ensures { (p : ℕ) (inverse : ℕ → ℕ) (m first n : ℕ) (s : Eliminated) (l : ℕ → ℕ → ℕ) (v : List ℕ) (i k : ℕ) → first + n ≤ m → IsReady p m first s → IsPanel first n (eliminate_columns p inverse m first n s) l v → first + n ≤ k → (eliminate_columns p inverse m first n s).words i k ≡ carried p inverse l v first n (λ r. s.words r k) i }
 {}
 
+/// The list of pivots goes on serving a panel when later columns have added theirs, so a group may
+/// wait for it.
+pub fn later_pivots_serve()
+    ensures { (p : ℕ) (inverse : ℕ → ℕ) (m first n k : ℕ) (s : Eliminated) → first + (n + k) ≤ m → IsReady p m first s → IsPanel first n (eliminate_columns p inverse m first n s) (eliminate_columns p inverse m first n s).words (eliminate_columns p inverse m first (n + k) s).pivots }
+{}
+
 /// A column left of a panel has its rows exchanged, and nothing else.
 pub fn column_left_is_exchanged()
     ensures { (p : ℕ) (inverse : ℕ → ℕ) (m first n : ℕ) (s : Eliminated) (l : ℕ → ℕ → ℕ) (v : List ℕ) (i k : ℕ) → first + n ≤ m → IsReady p m first s → IsPanel first n (eliminate_columns p inverse m first n s) l v → k < first → (eliminate_columns p inverse m first n s).words i k ≡ exchanged v first n (λ r. s.words r k) i }

@@ -1,7 +1,7 @@
 -- Gaussian elimination by columns, on words modulo p as a function of row and column, both counted from 0. Over a prime field no word is
 -- larger than another, so the pivot of a column is its first word at or below the diagonal that is not 0 (as LAPACK's xGETF2, but for that rule).
 -- `inverse` gives each word its inverse.
-use Rattle.std.specs.Prelude.{◌≡◌, ℕ, zero, suc, ◌+◌, ◌-◌, ◌*◌, ◌%◌, ◌==◌, if◌then◌else◌, nat_lt, Option, Some, None, List, [], ◌∷◌, ◌++◌, slice_index_or, min}
+use Rattle.std.specs.Prelude.{ℕ, zero, suc, ◌+◌, ◌-◌, ◌*◌, ◌%◌, ◌==◌, if◌then◌else◌, nat_lt, Option, Some, None, List, [], ◌∷◌, ◌++◌, slice_index_or, min}
 use Rattle.run_data.specs.Matrix.{Matrix, cols, entry, tabulate}
 use Rattle.local_blas.specs.Kernels.{swapped}
 
