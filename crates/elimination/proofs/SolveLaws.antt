@@ -6,6 +6,7 @@ use Rattle.std.proofs.lemmas.Nat.{mul-mod_second}
 use Rattle.field_core.specs.Sums.{sum_to}
 use Rattle.field_core.proofs.Modular.{same_scaled}
 use Rattle.field_core.proofs.Sums.{sum_to-same, sum_to-same_mod, sum_to-scale}
+use Rattle.field_core.proofs.WeightedSums.{weighted-scaled}
 use Rattle.local_blas.specs.Kernels.{solution, upper_solution}
 use Rattle.local_blas.proofs.Products.{product-split}
 use Rattle.local_blas.proofs.SolutionLaws.{solution-weighted, solution-block}
@@ -29,16 +30,8 @@ upper_solution-keeps p inverse n w x c unit u rows pos_p sum =
     }
 
 -- and the multiple by one factor
-pub scaled-keeps : (p n : ℕ) (w : ℕ → ℕ) (x : ℕ → ℕ → ℕ) (c : ℕ → ℕ) (alpha : ℕ) → IsWeightedSum p n w x c → IsWeightedSum p n w (λ q i. (alpha * x q i) % p) (λ i. (alpha * c i) % p)
-scaled-keeps p n w x c alpha sum =
-    record {
-      at = λ i. mod-mod (alpha * c i) p ∙ same_scaled p alpha (c i) (sum_to n (λ q. w q * x q i)) (sum.at i)
-          ∙ ap (λ s. s % p) (sym (sum_to-scale n alpha (λ q. w q * x q i)) ∙ sum_to-same n (λ q. alpha * (w q * x q i)) (λ q. w q * (alpha * x q i)) (λ q _. turn alpha (w q) (x q i)))
-          ∙ sym (sum_to-same_mod p n (λ q. w q * ((alpha * x q i) % p)) (λ q. w q * (alpha * x q i)) (λ q _. mul-mod_second (w q) (alpha * x q i) p));
-    }
-  where
-    turn : (a w x : ℕ) → a * (w * x) ≡ w * (a * x)
-    turn a w x = omega arith
+pub scaled-keeps : (p n : ℕ) (w : ℕ → ℕ) (x : ℕ → ℕ → ℕ) (c : ℕ → ℕ) (alpha : ℕ) → IsWeightedSum p n w x c → IsWeightedSum p n w (λ q i. (x q i * alpha) % p) (λ i. (c i * alpha) % p)
+scaled-keeps p n w x c alpha sum = record { at = λ i. mod-mod (c i * alpha) p ∙ weighted-scaled p n alpha w (λ q. x q i) (c i) (sum.at i) }
 
 -- the solve with factors keeps weighted sums
 pub factors-keep : (p : ℕ) (inverse : ℕ → ℕ) (n : ℕ) (w : ℕ → ℕ) (x : ℕ → ℕ → ℕ) (c : ℕ → ℕ) (a : ℕ → ℕ → ℕ) (v : List ℕ) (rows : ℕ) → 0 < p → IsWeightedSum p n w x c → IsWeightedSum p n w (λ q. solved_with_factors p inverse a v rows (x q)) (solved_with_factors p inverse a v rows c)

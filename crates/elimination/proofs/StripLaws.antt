@@ -6,15 +6,15 @@ use Rattle.field_core.specs.Sums.{sum_to}
 use Rattle.field_core.proofs.Sums.{sum_to-same}
 use Rattle.run_data.specs.declared.matrix.Part.{Part}
 use Rattle.run_data.specs.Matrix.{Matrix, cols, entry}
-use Rattle.run_data.specs.Parts.{patched, with_part, part_entry, with_copy}
+use Rattle.run_data.specs.Parts.{patched, with_part, part_entry, with_copy, whole_part}
 use Rattle.run_data.proofs.Matrices.{rows-tabulate, cols-tabulate, entry-tabulate}
 use Rattle.run_data.proofs.PartLaws.{rows-with_part, cols-with_part}
-use Rattle.local_blas.specs.Kernels.{solution, upper_solution, swapped, eliminated_word, multiplier, with_rows_swapped, product_word}
+use Rattle.local_blas.specs.Kernels.{solution, upper_solution, swapped, eliminated_word, multiplier, with_rows_swapped, product_word, with_scaled}
 use Rattle.local_blas.proofs.Eliminations.{eliminated_word-first, eliminated_word-later}
 use Rattle.serial_model.specs.Elimination.{exchange, divide, subtract, pivot_from, with_pivot, Eliminated, eliminate_column, pivot_row, came_from, exchanged}
 use Rattle.elimination.specs.Panels.{solved, reduced}
 use Rattle.elimination.specs.Solves.{upper_solved, upper_reduced, gained}
-use Rattle.elimination.specs.Strips.{RowMap, IsRowMap, IsBlock, rows_below, row_at, row_owner, row_place, Hold, held, AreExchanged, in_rows, solved_rows, upper_solved_rows, gained_rows, span, block_rows, AreSolved, AreUpperSolved, HaveGained, AreEliminated, one_row}
+use Rattle.elimination.specs.Strips.{RowMap, IsRowMap, IsBlock, rows_below, row_at, row_owner, row_place, Hold, held, AreExchanged, in_rows, solved_rows, upper_solved_rows, gained_rows, span, block_rows, AreSolved, AreUpperSolved, HaveGained, AreEliminated, one_row, HaveAdded, added_words}
 use Rattle.elimination.proofs.Reductions.{solution-same, reduced-above, reduced-among, reduced-under}
 use Rattle.elimination.proofs.UpperLaws.{upper_solution-same, upper_reduced-above, upper_reduced-among, upper_reduced-under}
 use Rattle.elimination.proofs.Words.{multiplier_at, column-above, column-left, column-multiplier, column-right}
@@ -529,3 +529,40 @@ exchanged-on_two d width i j f m m' sp sp' strips strips' map hi hj hold apart m
 
     across : (k c : ℕ) → c < width → c < cols (strips (row_owner d k))
     across k c hc = rw (hold.columns (row_owner d k) (row_owner-lt d k map)) hc
+
+-- a strip all of whose words were written
+whole-held : (d : RowMap) (width : ℕ) (f g : ℕ → ℕ → ℕ) (w : ℕ → ℕ → ℕ → ℕ) (strips strips' : ℕ → Matrix) → Hold d width f strips → ((row : ℕ) → row < d.procs → strips' row ≡ with_part (strips row) (whole_part (strips row)) (w row)) → ((row l c : ℕ) → row < d.procs → l < rows_below d d.m row → c < width → w row l c ≡ g (row_at d row l) c) → Hold d width g strips'
+whole-held d width f g w strips strips' hold made words =
+    record {
+      rows = λ row h. ap (λ m. m.rows) (made row h) ∙ rows-with_part (strips row) (whole_part (strips row)) (w row) ∙ hold.rows row h;
+      columns = λ row h. ap cols (made row h) ∙ cols-with_part (strips row) (whole_part (strips row)) (w row) ∙ hold.columns row h;
+      words = λ row l c h hl hc.
+          (let rows : (strips row).rows ≡ rows_below d d.m row = hold.rows row h in
+          let columns : cols (strips row) ≡ width = hold.columns row h in
+          let hl' : l < (strips row).rows = rw rows hl in
+          let hc' : c < cols (strips row) = rw columns hc in
+          ap (λ m. entry m l c) (made row h) ∙ entry-tabulate (strips row).rows (cols (strips row)) (patched (whole_part (strips row)) (w row) (entry (strips row))) l c hl' hc'
+          ∙ patched-inside (whole_part (strips row)) (w row) (entry (strips row)) l c (omega arith) hl' (omega arith) hc' ∙ words row l c h hl hc);
+    }
+
+-- strips that gained a multiple of others where a test holds
+pub add-held : (d : RowMap) (width p a : ℕ) (f g : ℕ → ℕ → ℕ) (holds : ℕ → ℕ → Bool) (source : ℕ → Matrix) (sp : ℕ → Part) (test : ℕ → ℕ → ℕ → Bool) (strips strips' : ℕ → Matrix) → HaveAdded d width p a g holds source sp test strips strips' → Hold d width f strips → Hold d width (added_words p a g holds f) strips'
+add-held d width p a f g holds source sp test strips strips' done hold =
+    whole-held d width f (added_words p a g holds f)
+    (λ row i j. if test row (0 + (i - 0)) (0 + (j - 0)) then (entry (strips row) i j + a * part_entry (source row) (sp row) (i - 0) (j - 0)) % p else entry (strips row) i j) strips strips' hold done.made
+    (λ row l c h hl hc.
+    let row_is : l - 0 ≡ l = omega arith in
+    let col_is : c - 0 ≡ c = omega arith in
+    let row_at_is : 0 + (l - 0) ≡ l = omega arith in
+    let col_at_is : 0 + (c - 0) ≡ c = omega arith in
+    ap (λ r. if test row r (0 + (c - 0)) then (entry (strips row) l c + a * part_entry (source row) (sp row) (l - 0) (c - 0)) % p else entry (strips row) l c) row_at_is
+    ∙ ap (λ k. if test row l k then (entry (strips row) l c + a * part_entry (source row) (sp row) (l - 0) (c - 0)) % p else entry (strips row) l c) col_at_is
+    ∙ ap (λ b. if b then (entry (strips row) l c + a * part_entry (source row) (sp row) (l - 0) (c - 0)) % p else entry (strips row) l c) (done.tests row l c h hl hc)
+    ∙ ap (λ v. if holds (row_at d row l) c then (entry (strips row) l c + a * v) % p else entry (strips row) l c)
+    (ap (λ r. part_entry (source row) (sp row) r (c - 0)) row_is ∙ ap (part_entry (source row) (sp row) l) col_is ∙ done.source_words row l c h hl hc)
+    ∙ ap (λ v. if holds (row_at d row l) c then (v + a * g (row_at d row l) c) % p else v) (hold.words row l c h hl hc))
+
+-- strips that were multiplied
+pub scale-held : (d : RowMap) (width p a : ℕ) (f : ℕ → ℕ → ℕ) (strips strips' : ℕ → Matrix) → ((row : ℕ) → row < d.procs → strips' row ≡ with_scaled p (strips row) (whole_part (strips row)) a) → Hold d width f strips → Hold d width (λ i c. (f i c * a) % p) strips'
+scale-held d width p a f strips strips' made hold =
+    whole-held d width f (λ i c. (f i c * a) % p) (λ row i j. (entry (strips row) i j * a) % p) strips strips' hold made (λ row l c h hl hc. ap (λ v. (v * a) % p) (hold.words row l c h hl hc))

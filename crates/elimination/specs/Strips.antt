@@ -3,8 +3,8 @@
 use Rattle.std.specs.Prelude.{◌≡◌, ◌≢◌, ℕ, ◌+◌, ◌-◌, ◌*◌, ◌%◌, ◌<◌, ◌≤◌, ◌&&◌, if◌then◌else◌, nat_lt, nat_le, Bool}
 use Rattle.run_data.specs.declared.matrix.Part.{Part}
 use Rattle.run_data.specs.Matrix.{Matrix, cols, entry}
-use Rattle.run_data.specs.Parts.{part_entry}
-use Rattle.local_blas.specs.Kernels.{with_product, with_solved_lower, with_solved_upper, with_eliminated}
+use Rattle.run_data.specs.Parts.{part_entry, whole_part}
+use Rattle.local_blas.specs.Kernels.{with_added, with_product, with_solved_lower, with_solved_upper, with_eliminated}
 use Rattle.array_desc.specs.Maps.{owner, local, global, numroc, block_in}
 use Rattle.elimination.specs.Panels.{solved}
 use Rattle.elimination.specs.Solves.{upper_solved, gained}
@@ -104,6 +104,16 @@ pub record HaveGained (d : RowMap) (width : ℕ) (p a : ℕ) (l : ℕ → ℕ �
 pub record AreEliminated (d : RowMap) (width : ℕ) (p : ℕ) (inverse : ℕ → ℕ) (above j : ℕ) (f : ℕ → ℕ → ℕ) (line : ℕ → Matrix) (at : ℕ → Part) (strips strips' : ℕ → Matrix) : Type 0 where
   pub made : (row : ℕ) → row < d.procs → strips' row ≡ with_eliminated p inverse (strips row) (λ l. nat_lt above (row_at d row l)) j (line row) (at row)
   pub pivot_words : (row c : ℕ) → row < d.procs → c < width → part_entry (line row) (at row) 0 c ≡ f above c
+
+-- each strip gained a times a part of its shape, at the places that pass a test of the global row and the strip's column
+pub record HaveAdded (d : RowMap) (width : ℕ) (p a : ℕ) (g : ℕ → ℕ → ℕ) (holds : ℕ → ℕ → Bool) (source : ℕ → Matrix) (sp : ℕ → Part) (test : ℕ → ℕ → ℕ → Bool) (strips strips' : ℕ → Matrix) : Type 0 where
+  pub made : (row : ℕ) → row < d.procs → strips' row ≡ with_added p (strips row) (whole_part (strips row)) a (source row) (sp row) (test row)
+  pub source_words : (row l c : ℕ) → row < d.procs → l < rows_below d d.m row → c < width → part_entry (source row) (sp row) l c ≡ g (row_at d row l) c
+  pub tests : (row l c : ℕ) → row < d.procs → l < rows_below d d.m row → c < width → test row l c ≡ holds (row_at d row l) c
+
+-- the words f, which gained a times the words g where the test holds
+abbrev pub added_words : ℕ → ℕ → (ℕ → ℕ → ℕ) → (ℕ → ℕ → Bool) → (ℕ → ℕ → ℕ) → ℕ → ℕ → ℕ
+added_words p a g holds f i c = if holds i c then (f i c + a * g i c) % p else f i c
 
 -- the part of one row of a strip
 abbrev pub one_row : ℕ → ℕ → Part

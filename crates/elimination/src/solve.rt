@@ -41,7 +41,7 @@ pub fn upper_rows_are_linear()
 
 /// A multiple keeps weighted sums.
 pub fn scaling_is_linear()
-    ensures { (p n : ℕ) (w : ℕ → ℕ) (x : ℕ → ℕ → ℕ) (c : ℕ → ℕ) (alpha : ℕ) → IsWeightedSum p n w x c → IsWeightedSum p n w (λ q i. (alpha * x q i) % p) (λ i. (alpha * c i) % p) }
+    ensures { (p n : ℕ) (w : ℕ → ℕ) (x : ℕ → ℕ → ℕ) (c : ℕ → ℕ) (alpha : ℕ) → IsWeightedSum p n w x c → IsWeightedSum p n w (λ q i. (x q i * alpha) % p) (λ i. (c i * alpha) % p) }
 {}
 
 /// A product with one left side, a multiple of which is added, keeps weighted sums.

@@ -9,14 +9,14 @@ ghost use Rattle.std.specs.Prelude.{◌≡◌, ◌≢◌, ℕ, suc, ◌+◌, ◌
 ghost use Rattle.field_core.specs.Sums.{sum_to};
 ghost use Rattle.run_data.specs.declared.matrix.Part.{Part};
 ghost use Rattle.run_data.specs.Matrix.{Matrix, cols, entry};
-ghost use Rattle.run_data.specs.Parts.{part_entry, with_copy};
-ghost use Rattle.local_blas.specs.Kernels.{swapped, with_rows_swapped};
+ghost use Rattle.run_data.specs.Parts.{part_entry, with_copy, whole_part};
+ghost use Rattle.local_blas.specs.Kernels.{swapped, with_rows_swapped, with_scaled};
 ghost use Rattle.array_desc.specs.Maps.{group_of};
 ghost use Rattle.serial_model.specs.Elimination.{Eliminated, eliminate_column, pivot_row, exchange, exchanged};
 ghost use Rattle.elimination.specs.Panels.{reduced};
 ghost use Rattle.elimination.specs.Solves.{upper_reduced};
 ghost use Rattle.elimination.specs.CodeLaw.{IsWeightedSum, IsOwn, IsOutside};
-ghost use Rattle.elimination.specs.Strips.{RowMap, IsRowMap, IsBlock, rows_below, row_at, group_column, row_owner, row_place, Hold, held, AreExchanged, solved_rows, upper_solved_rows, gained_rows, AreSolved, AreUpperSolved, HaveGained, AreEliminated, one_row};
+ghost use Rattle.elimination.specs.Strips.{RowMap, IsRowMap, IsBlock, rows_below, row_at, group_column, row_owner, row_place, Hold, held, AreExchanged, solved_rows, upper_solved_rows, gained_rows, AreSolved, AreUpperSolved, HaveGained, AreEliminated, one_row, HaveAdded, added_words};
 
 /// Strips of the right shape hold the words that are read at their owners.
 pub fn strips_hold_their_words()
@@ -96,6 +96,17 @@ pub fn column_without_pivot_stays()
 /// Strips that gain a multiple of a product in a range of rows: the words of these rows gain it.
 pub fn strips_gain_a_product()
     ensures { (d : RowMap) (width p a : ℕ) (l : ℕ → ℕ → ℕ) (n : ℕ) (y f : ℕ → ℕ → ℕ) (lo hi : ℕ) (left : ℕ → Matrix) (lp : ℕ → Part) (right : ℕ → Matrix) (rp : ℕ → Part) (strips strips' : ℕ → Matrix) → IsRowMap d → HaveGained d width p a l n y lo hi left lp right rp strips strips' → Hold d width f strips → Hold d width (gained_rows p a l n y lo hi f) strips' }
+{}
+
+/// Strips that gain a multiple of others at the places that pass a test: the words gain it there.
+/// So Code loses a panel's column and Open goes into Code and Low by a test of row and column.
+pub fn strips_add()
+    ensures { (d : RowMap) (width p a : ℕ) (f g : ℕ → ℕ → ℕ) (holds : ℕ → ℕ → Bool) (source : ℕ → Matrix) (sp : ℕ → Part) (test : ℕ → ℕ → ℕ → Bool) (strips strips' : ℕ → Matrix) → HaveAdded d width p a g holds source sp test strips strips' → Hold d width f strips → Hold d width (added_words p a g holds f) strips' }
+{}
+
+/// Strips that are multiplied: the words are.
+pub fn strips_scale()
+    ensures { (d : RowMap) (width p a : ℕ) (f : ℕ → ℕ → ℕ) (strips strips' : ℕ → Matrix) → ((row : ℕ) → row < d.procs → strips' row ≡ with_scaled p (strips row) (whole_part (strips row)) a) → Hold d width f strips → Hold d width (λ i c. (f i c * a) % p) strips' }
 {}
 
 /// A block row of a lower triangle: it is solved on its process row, and then the rows below lose

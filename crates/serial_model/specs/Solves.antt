@@ -38,7 +38,7 @@ first_zero a = least_zero (diagonal (entry a)) a.rows
 
 -- B becomes the X with A X = alpha B for a triangle of A; a diagonal that counts as ones is not tested (PTRSM with SIDE L and TRANSA N)
 abbrev pub triangle_solved : ℕ → (ℕ → ℕ) → Bool → Bool → ℕ → Matrix → Matrix → Solved
-triangle_solved p inverse lower unit alpha a b = solved_unless (if unit then 0 else first_zero a) b (λ x. solved_column p inverse lower unit a.rows (entry a) (λ k. (alpha * x k) % p))
+triangle_solved p inverse lower unit alpha a b = solved_unless (if unit then 0 else first_zero a) b (λ x. solved_column p inverse lower unit a.rows (entry a) (λ k. (x k * alpha) % p))
 
 -- B becomes the X with A X = B, from the factors and the pivots of A (PGETRS with TRANS N)
 abbrev pub factors_solved : ℕ → (ℕ → ℕ) → Matrix → List ℕ → Matrix → Solved
