@@ -1,4 +1,4 @@
-use Rattle.std.proofs.Common.{◌≡◌, ℕ, zero, suc, ◌+◌, ◌-◌, ◌<◌, ◌≤◌, ◌==◌, min, true, false, if◌then◌else◌, nat_lt, Option, Some, None, refl, sym, ◌∙◌, ap, arith, inl, inr, eq-eqb}
+use Rattle.std.proofs.Common.{◌≡◌, ◌≢◌, ℕ, zero, suc, ◌+◌, ◌-◌, ◌<◌, ◌≤◌, ◌==◌, min, true, false, if◌then◌else◌, nat_lt, Option, Some, None, refl, sym, ◌∙◌, ap, arith, inl, inr, eq-eqb}
 use Rattle.std.proofs.lemmas.Bool.{cases_eq, ne_eqb, le-ltb}
 use Rattle.local_blas.specs.Kernels.{swapped}
 use Rattle.serial_model.specs.Elimination.{pivot_from, exchange, divide, subtract, Eliminated, with_pivot, eliminate_column, eliminate_columns, untouched, elimination, least_zero, diagonal, pivot_row}
@@ -59,3 +59,28 @@ info-columns p inverse m (suc n) s h ready none =
 pub info-is_test : (p : ℕ) (inverse : ℕ → ℕ) (m n : ℕ) (a : ℕ → ℕ → ℕ) → IsReady p m 0 (untouched a) → (elimination p inverse m n a).info ≡ least_zero (diagonal (elimination p inverse m n a).words) (min m n)
 unfolding elimination
 info-is_test p inverse m n a ready = info-columns p inverse m (min m n) (untouched a) (omega arith) ready refl
+
+-- no zero: no number
+pub least_zero-none : (c : ℕ → ℕ) (n : ℕ) → ((i : ℕ) → i < n → c i ≢ 0) → least_zero c n ≡ 0
+unfolding least_zero
+least_zero-none c zero some = refl
+least_zero-none c (suc n) some =
+    let before : least_zero c n ≡ 0 = least_zero-none c n (λ i h. some i (omega arith)) in
+    let t : (c n == 0) ≡ false = ne_eqb (c n) 0 (some n (omega arith)) in
+    simp (before, t)
+
+-- the first zero: its number
+pub least_zero-first : (c : ℕ → ℕ) (n i : ℕ) → i < n → c i ≡ 0 → ((k : ℕ) → k < i → c k ≢ 0) → least_zero c n ≡ i + 1
+unfolding least_zero
+least_zero-first c zero i h z some = absurd (omega arith)
+least_zero-first c (suc n) i h z some =
+    elim (cases_eq i n) [
+      | inl last ↦
+          (let before : least_zero c n ≡ 0 = least_zero-none c n (λ k hk. some k (omega arith)) in
+          let t : (c n == 0) ≡ true = eq-eqb (c n) 0 (ap c (sym last) ∙ z) in
+          simp (before, t) (ap (λ k. k + 1) (sym last)))
+      | inr earlier ↦
+          (let before : least_zero c n ≡ i + 1 = least_zero-first c n i (omega arith) z some in
+          let t : (i + 1 == 0) ≡ false = ne_eqb (i + 1) 0 (omega arith) in
+          simp (before, t))
+    ]

@@ -15,7 +15,9 @@ pub fn blocks_solve()
 
 /// All rows of a lower triangle give the solution.
 pub fn all_rows_solve()
-    ensures { (p : ℕ) (inverse : ℕ → ℕ) (unit : Bool) (l : ℕ → ℕ → ℕ) (n : ℕ) (x : ℕ → ℕ) (i : ℕ) → i < n → reduced p inverse unit l 0 n x i ≡ solution p inverse unit l x i }
+    ensures { (p : ℕ) (inverse : ℕ → ℕ) (unit : Bool) (l : ℕ → ℕ → ℕ) (n : ℕ) (x : ℕ → ℕ) (i : ℕ) →
+        i < n →
+        reduced p inverse unit l 0 n x i ≡ solution p inverse unit l x i }
 {}
 
 /// The rows of an upper triangle taken block after block, from the last one up, give what they
@@ -26,30 +28,42 @@ pub fn upper_blocks_solve()
 
 /// All rows of an upper triangle give the solution.
 pub fn all_upper_rows_solve()
-    ensures { (p : ℕ) (inverse : ℕ → ℕ) (unit : Bool) (u : ℕ → ℕ → ℕ) (n : ℕ) (x : ℕ → ℕ) (i : ℕ) → i < n → upper_reduced p inverse unit u 0 n x i ≡ upper_solution p inverse unit n u x i }
+    ensures { (p : ℕ) (inverse : ℕ → ℕ) (unit : Bool) (u : ℕ → ℕ → ℕ) (n : ℕ) (x : ℕ → ℕ) (i : ℕ) →
+        i < n →
+        upper_reduced p inverse unit u 0 n x i ≡ upper_solution p inverse unit n u x i }
 {}
 
 /// Rows of a lower triangle, solved and taken off the rows below, keep weighted sums.
 pub fn rows_are_linear()
-    ensures { (p : ℕ) (inverse : ℕ → ℕ) (n : ℕ) (unit : Bool) (w : ℕ → ℕ) (x : ℕ → ℕ → ℕ) (c : ℕ → ℕ) (l : ℕ → ℕ → ℕ) (first count : ℕ) → 0 < p → IsWeightedSum p n w x c → IsWeightedSum p n w (λ q. reduced p inverse unit l first count (x q)) (reduced p inverse unit l first count c) }
+    ensures { (p : ℕ) (inverse : ℕ → ℕ) (n : ℕ) (unit : Bool) (w : ℕ → ℕ) (x : ℕ → ℕ → ℕ) (c : ℕ → ℕ) (l : ℕ → ℕ → ℕ) (first count : ℕ) →
+        0 < p → IsWeightedSum p n w x c →
+        IsWeightedSum p n w (λ q. reduced p inverse unit l first count (x q)) (reduced p inverse unit l first count c) }
 {}
 
 /// Rows of an upper triangle, solved and taken off the rows above, keep weighted sums.
 pub fn upper_rows_are_linear()
-    ensures { (p : ℕ) (inverse : ℕ → ℕ) (n : ℕ) (unit : Bool) (w : ℕ → ℕ) (x : ℕ → ℕ → ℕ) (c : ℕ → ℕ) (u : ℕ → ℕ → ℕ) (first count : ℕ) → 0 < p → IsWeightedSum p n w x c → IsWeightedSum p n w (λ q. upper_reduced p inverse unit u first count (x q)) (upper_reduced p inverse unit u first count c) }
+    ensures { (p : ℕ) (inverse : ℕ → ℕ) (n : ℕ) (unit : Bool) (w : ℕ → ℕ) (x : ℕ → ℕ → ℕ) (c : ℕ → ℕ) (u : ℕ → ℕ → ℕ) (first count : ℕ) →
+        0 < p → IsWeightedSum p n w x c →
+        IsWeightedSum p n w (λ q. upper_reduced p inverse unit u first count (x q)) (upper_reduced p inverse unit u first count c) }
 {}
 
 /// A multiple keeps weighted sums.
 pub fn scaling_is_linear()
-    ensures { (p n : ℕ) (w : ℕ → ℕ) (x : ℕ → ℕ → ℕ) (c : ℕ → ℕ) (alpha : ℕ) → IsWeightedSum p n w x c → IsWeightedSum p n w (λ q i. (x q i * alpha) % p) (λ i. (c i * alpha) % p) }
+    ensures { (p n : ℕ) (w : ℕ → ℕ) (x : ℕ → ℕ → ℕ) (c : ℕ → ℕ) (alpha : ℕ) →
+        IsWeightedSum p n w x c →
+        IsWeightedSum p n w (λ q i. (x q i * alpha) % p) (λ i. (c i * alpha) % p) }
 {}
 
 /// A product with one left side, a multiple of which is added, keeps weighted sums.
 pub fn products_are_linear()
-    ensures { (p n : ℕ) (w : ℕ → ℕ) (x y : ℕ → ℕ → ℕ) (c d : ℕ → ℕ) (a : ℕ) (l : ℕ → ℕ → ℕ) (count : ℕ) → IsWeightedSum p n w x c → IsWeightedSum p n w y d → IsWeightedSum p n w (λ q. gained p a l count (x q) (y q)) (gained p a l count c d) }
+    ensures { (p n : ℕ) (w : ℕ → ℕ) (x y : ℕ → ℕ → ℕ) (c d : ℕ → ℕ) (a : ℕ) (l : ℕ → ℕ → ℕ) (count : ℕ) →
+        IsWeightedSum p n w x c → IsWeightedSum p n w y d →
+        IsWeightedSum p n w (λ q. gained p a l count (x q) (y q)) (gained p a l count c d) }
 {}
 
 /// The solve with factors keeps weighted sums.
 pub fn factors_are_linear()
-    ensures { (p : ℕ) (inverse : ℕ → ℕ) (n : ℕ) (w : ℕ → ℕ) (x : ℕ → ℕ → ℕ) (c : ℕ → ℕ) (a : ℕ → ℕ → ℕ) (v : List ℕ) (rows : ℕ) → 0 < p → IsWeightedSum p n w x c → IsWeightedSum p n w (λ q. solved_with_factors p inverse a v rows (x q)) (solved_with_factors p inverse a v rows c) }
+    ensures { (p : ℕ) (inverse : ℕ → ℕ) (n : ℕ) (w : ℕ → ℕ) (x : ℕ → ℕ → ℕ) (c : ℕ → ℕ) (a : ℕ → ℕ → ℕ) (v : List ℕ) (rows : ℕ) →
+        0 < p → IsWeightedSum p n w x c →
+        IsWeightedSum p n w (λ q. solved_with_factors p inverse a v rows (x q)) (solved_with_factors p inverse a v rows c) }
 {}
