@@ -11,7 +11,7 @@ use Rattle.local_blas.specs.Kernels.{solution, upper_solution}
 use Rattle.local_blas.proofs.Products.{product-split}
 use Rattle.local_blas.proofs.SolutionLaws.{solution-weighted, solution-block}
 use Rattle.serial_model.specs.Elimination.{exchanged}
-use Rattle.serial_model.specs.Solves.{solved_with_factors}
+use Rattle.serial_model.specs.Solves.{solved_column, solved_with_factors}
 use Rattle.elimination.specs.Panels.{solved, reduced}
 use Rattle.elimination.specs.CodeLaw.{IsWeightedSum}
 use Rattle.elimination.proofs.CodeLaws.{exchanged-weighted}
@@ -28,6 +28,11 @@ upper_solution-keeps p inverse n w x c unit u rows pos_p sum =
     record {
       at = λ i. (solution-keeps p inverse n w (λ q i. x q (rows - 1 - i)) (λ i. c (rows - 1 - i)) unit (λ i k. u (rows - 1 - i) (rows - 1 - k)) pos_p (record { at = λ k. sum.at (rows - 1 - k) })).at (rows - 1 - i);
     }
+
+-- so does a solve by either triangle
+pub solved_column-keeps : (p : ℕ) (inverse : ℕ → ℕ) (n : ℕ) (w : ℕ → ℕ) (x : ℕ → ℕ → ℕ) (c : ℕ → ℕ) (is_lower unit : Bool) (a : ℕ → ℕ → ℕ) (rows : ℕ) → 0 < p → IsWeightedSum p n w x c → IsWeightedSum p n w (λ q. solved_column p inverse is_lower unit rows a (x q)) (solved_column p inverse is_lower unit rows a c)
+solved_column-keeps p inverse n w x c true unit a rows pos_p sum = solution-keeps p inverse n w x c unit a pos_p sum
+solved_column-keeps p inverse n w x c false unit a rows pos_p sum = upper_solution-keeps p inverse n w x c unit a rows pos_p sum
 
 -- and the multiple by one factor
 pub scaled-keeps : (p n : ℕ) (w : ℕ → ℕ) (x : ℕ → ℕ → ℕ) (c : ℕ → ℕ) (alpha : ℕ) → IsWeightedSum p n w x c → IsWeightedSum p n w (λ q i. (x q i * alpha) % p) (λ i. (c i * alpha) % p)

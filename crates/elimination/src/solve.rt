@@ -2,7 +2,7 @@
 
 ghost use Rattle.std.specs.Prelude.{◌≡◌, ℕ, ◌+◌, ◌*◌, ◌%◌, ◌<◌, Bool, List};
 ghost use Rattle.local_blas.specs.Kernels.{solution, upper_solution};
-ghost use Rattle.serial_model.specs.Solves.{solved_with_factors};
+ghost use Rattle.serial_model.specs.Solves.{solved_column, solved_with_factors};
 ghost use Rattle.elimination.specs.Panels.{reduced};
 ghost use Rattle.elimination.specs.Solves.{upper_reduced, gained};
 ghost use Rattle.elimination.specs.CodeLaw.{IsWeightedSum};
@@ -45,6 +45,13 @@ pub fn upper_rows_are_linear()
     ensures { (p : ℕ) (inverse : ℕ → ℕ) (n : ℕ) (unit : Bool) (w : ℕ → ℕ) (x : ℕ → ℕ → ℕ) (c : ℕ → ℕ) (u : ℕ → ℕ → ℕ) (first count : ℕ) →
         0 < p → IsWeightedSum p n w x c →
         IsWeightedSum p n w (λ q. upper_reduced p inverse unit u first count (x q)) (upper_reduced p inverse unit u first count c) }
+{}
+
+/// A solve by all rows of a triangle, the lower or the upper one, keeps weighted sums.
+pub fn triangles_are_linear()
+    ensures { (p : ℕ) (inverse : ℕ → ℕ) (n : ℕ) (w : ℕ → ℕ) (x : ℕ → ℕ → ℕ) (c : ℕ → ℕ) (is_lower unit : Bool) (a : ℕ → ℕ → ℕ) (rows : ℕ) →
+        0 < p → IsWeightedSum p n w x c →
+        IsWeightedSum p n w (λ q. solved_column p inverse is_lower unit rows a (x q)) (solved_column p inverse is_lower unit rows a c) }
 {}
 
 /// A multiple keeps weighted sums.
