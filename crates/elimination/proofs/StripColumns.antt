@@ -1,5 +1,5 @@
 -- From strips to columns: searches, weighted sums, and which columns a group has.
-use Rattle.std.proofs.Common.{◌≡◌, ◌≢◌, ℕ, ◌+◌, ◌*◌, ◌%◌, ◌<◌, ◌≤◌, true, false, nat_lt, sym, ◌∙◌, ap, arith, inl, inr}
+use Rattle.std.proofs.Common.{◌≡◌, ◌≢◌, ℕ, ◌+◌, ◌-◌, ◌*◌, ◌%◌, ◌<◌, ◌≤◌, true, false, nat_lt, sym, ◌∙◌, ap, arith, inl, inr, List}
 use Rattle.std.proofs.Math.Nat.{mod-lt}
 use Rattle.std.proofs.lemmas.Bool.{cases_lt, lt-ltb, le-ltb}
 use Rattle.std.proofs.lemmas.Nat.{mul-le}
@@ -10,8 +10,13 @@ use Rattle.array_desc.specs.Maps.{block_in, group_of}
 use Rattle.array_desc.proofs.GroupLaws.{owner-block_in, group_of-block_in, block_in-group_of}
 use Rattle.elimination.specs.CodeLaw.{IsWeightedSum, IsOwn, IsOutside, Ahead, Open, Closed, stage_at}
 use Rattle.elimination.proofs.Stages.{stage_at-closed, stage_at-open, stage_at-ahead}
-use Rattle.elimination.specs.Strips.{RowMap, IsRowMap, rows_below, row_at, row_owner, row_place, Hold, held, group_column}
+use Rattle.elimination.specs.Strips.{RowMap, IsRowMap, rows_below, row_at, row_owner, row_place, Hold, held, group_column, IsBlock, AreSolved, HaveGained, solved_rows}
 use Rattle.elimination.proofs.StripMaps.{row_owner-lt, row_at-owner, row_owner-at, row_place-at, row_place-lt, row_at-lt}
+use Rattle.run_data.specs.declared.matrix.Part.{Part}
+use Rattle.serial_model.specs.Elimination.{Eliminated, eliminate_columns, exchanged}
+use Rattle.elimination.specs.Panels.{IsReady, IsPanel, carried}
+use Rattle.elimination.proofs.StripLaws.{hold-same, block_row-held}
+use Rattle.elimination.proofs.PanelLaws.{column-carried_by, column-exchanged_by}
 
 -- a word that strips hold, at its owner
 pub held-at : (d : RowMap) (width : ℕ) (f : ℕ → ℕ → ℕ) (strips : ℕ → Matrix) (i c : ℕ) → IsRowMap d → Hold d width f strips → i < d.m → c < width → entry (strips (row_owner d i)) (row_place d i) c ≡ f i c
@@ -111,3 +116,16 @@ stages-by_block k nb b c hc = (
       let split : (k + 1) * nb ≡ k * nb + nb = omega arith in
       stage_at-ahead (k * nb) nb (b * nb + c) (omega arith)),
 )
+
+-- a panel goes over a block column right of it
+pub carried-held : (d : RowMap) (width p : ℕ) (inverse : ℕ → ℕ) (first n start : ℕ) (s : Eliminated) (l : ℕ → ℕ → ℕ) (v : List ℕ) (block : Matrix) (bp : Part) (left : ℕ → Matrix) (lp : ℕ → Part) (right : ℕ → Matrix) (rp : ℕ → Part) (exchanged_strips solved_strips strips' : ℕ → Matrix) → IsRowMap d → IsBlock d first n → first + n ≤ start → IsReady p d.m first s → IsPanel first n (eliminate_columns p inverse d.m first n s) l v → Hold d width (λ i c. exchanged v first n (λ r. s.words r (start + c)) i) exchanged_strips → AreSolved d width p inverse true l first n block bp exchanged_strips solved_strips → HaveGained d width p (p - 1) (λ i k. l i (first + k)) n (λ k c. solved_rows p inverse true l first n (λ i c. exchanged v first n (λ r. s.words r (start + c)) i) (first + k) c) (first + n) d.m left lp right rp solved_strips strips' → Hold d width (λ i c. (eliminate_columns p inverse d.m first n s).words i (start + c)) strips'
+carried-held d width p inverse first n start s l v block bp left lp right rp exchanged_strips solved_strips strips' map in_one after ready panel hold solve gain =
+    hold-same d width (λ i c. carried p inverse l v first n (λ r. s.words r (start + c)) i) (λ i c. (eliminate_columns p inverse d.m first n s).words i (start + c)) strips' map
+    (λ i c _ _. sym (column-carried_by p inverse d.m first n s l v i (start + c) in_one.inside ready panel (omega arith)))
+    (block_row-held d width p inverse true l (λ i c. exchanged v first n (λ r. s.words r (start + c)) i) first n block bp left lp right rp exchanged_strips solved_strips strips' map in_one solve gain hold)
+
+-- and over one left of it
+pub exchanged-held : (d : RowMap) (width p : ℕ) (inverse : ℕ → ℕ) (first n start : ℕ) (s : Eliminated) (l : ℕ → ℕ → ℕ) (v : List ℕ) (strips' : ℕ → Matrix) → IsRowMap d → first + n ≤ d.m → start + width ≤ first → IsReady p d.m first s → IsPanel first n (eliminate_columns p inverse d.m first n s) l v → Hold d width (λ i c. exchanged v first n (λ r. s.words r (start + c)) i) strips' → Hold d width (λ i c. (eliminate_columns p inverse d.m first n s).words i (start + c)) strips'
+exchanged-held d width p inverse first n start s l v strips' map inside before ready panel hold =
+    hold-same d width (λ i c. exchanged v first n (λ r. s.words r (start + c)) i) (λ i c. (eliminate_columns p inverse d.m first n s).words i (start + c)) strips' map
+    (λ i c _ hc. sym (column-exchanged_by p inverse d.m first n s l v i (start + c) inside ready panel (omega arith))) hold

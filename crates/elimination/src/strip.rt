@@ -5,15 +5,15 @@
 //! of the global row and of the strip's column. The same laws serve a panel, an exchange of rows,
 //! a block row of a solve and an update, on every process column.
 
-ghost use Rattle.std.specs.Prelude.{◌≡◌, ◌≢◌, ℕ, suc, ◌+◌, ◌-◌, ◌*◌, ◌%◌, ◌<◌, ◌≤◌, Bool, List, [], ◌∷◌, ◌++◌};
+ghost use Rattle.std.specs.Prelude.{◌≡◌, ◌≢◌, ℕ, suc, ◌+◌, ◌-◌, ◌*◌, ◌%◌, ◌<◌, ◌≤◌, Bool, List, [], ◌∷◌, ◌++◌, true};
 ghost use Rattle.field_core.specs.Sums.{sum_to};
 ghost use Rattle.run_data.specs.declared.matrix.Part.{Part};
 ghost use Rattle.run_data.specs.Matrix.{Matrix, cols, entry};
 ghost use Rattle.run_data.specs.Parts.{part_entry, with_copy, whole_part};
 ghost use Rattle.local_blas.specs.Kernels.{swapped, with_rows_swapped, with_scaled};
 ghost use Rattle.array_desc.specs.Maps.{group_of};
-ghost use Rattle.serial_model.specs.Elimination.{Eliminated, eliminate_column, pivot_row, exchange, exchanged};
-ghost use Rattle.elimination.specs.Panels.{reduced};
+ghost use Rattle.serial_model.specs.Elimination.{Eliminated, eliminate_column, pivot_row, exchange, exchanged, eliminate_columns};
+ghost use Rattle.elimination.specs.Panels.{reduced, IsReady, IsPanel};
 ghost use Rattle.elimination.specs.Solves.{upper_reduced};
 ghost use Rattle.elimination.specs.CodeLaw.{IsWeightedSum, IsOwn, IsOutside};
 ghost use Rattle.elimination.specs.Strips.{RowMap, IsRowMap, IsBlock, rows_below, row_at, group_column, row_owner, row_place, Hold, held, AreExchanged, solved_rows, upper_solved_rows, gained_rows, AreSolved, AreUpperSolved, HaveGained, AreEliminated, one_row, HaveAdded, added_words};
@@ -183,4 +183,27 @@ pub fn upper_block_row_solves()
         HaveGained d width p (p - 1) (λ i k. u i (first + k)) n (λ k c. upper_solved_rows p inverse unit u first n f (first + k) c) 0 first left lp right rp solved_strips strips' →
         Hold d width f strips →
         Hold d width (λ i c. upper_reduced p inverse unit u first n (λ r. f r c) i) strips' }
+{}
+
+/// A panel goes over a block column right of it, whose first column is `start`: after the
+/// exchanges and the block row of the solve and update its strips hold what elimination makes of
+/// these columns.
+pub fn strips_are_carried()
+    ensures { (d : RowMap) (width p : ℕ) (inverse : ℕ → ℕ) (first n start : ℕ) (s : Eliminated) (l : ℕ → ℕ → ℕ) (v : List ℕ) (block : Matrix) (bp : Part) (left : ℕ → Matrix) (lp : ℕ → Part) (right : ℕ → Matrix) (rp : ℕ → Part) (exchanged_strips solved_strips strips' : ℕ → Matrix) →
+        IsRowMap d → IsBlock d first n → first + n ≤ start → IsReady p d.m first s →
+        IsPanel first n (eliminate_columns p inverse d.m first n s) l v →
+        Hold d width (λ i c. exchanged v first n (λ r. s.words r (start + c)) i) exchanged_strips →
+        AreSolved d width p inverse true l first n block bp exchanged_strips solved_strips →
+        HaveGained d width p (p - 1) (λ i k. l i (first + k)) n (λ k c. solved_rows p inverse true l first n (λ i c. exchanged v first n (λ r. s.words r (start + c)) i) (first + k) c) (first + n) d.m left lp right rp solved_strips strips' →
+        Hold d width (λ i c. (eliminate_columns p inverse d.m first n s).words i (start + c)) strips' }
+{}
+
+/// A panel goes over a block column left of it: after the exchanges its strips hold what
+/// elimination makes of these columns.
+pub fn strips_are_exchanged()
+    ensures { (d : RowMap) (width p : ℕ) (inverse : ℕ → ℕ) (first n start : ℕ) (s : Eliminated) (l : ℕ → ℕ → ℕ) (v : List ℕ) (strips' : ℕ → Matrix) →
+        IsRowMap d → first + n ≤ d.m → start + width ≤ first → IsReady p d.m first s →
+        IsPanel first n (eliminate_columns p inverse d.m first n s) l v →
+        Hold d width (λ i c. exchanged v first n (λ r. s.words r (start + c)) i) strips' →
+        Hold d width (λ i c. (eliminate_columns p inverse d.m first n s).words i (start + c)) strips' }
 {}
