@@ -1,2 +1,4 @@
 pub mod Text
 pub mod Serial
+pub mod Elimination
+pub mod Solves

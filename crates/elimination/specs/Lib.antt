@@ -1,0 +1,5 @@
+pub mod Panels
+pub mod CodeLaw
+pub mod Solves
+pub mod Whole
+pub mod Strips

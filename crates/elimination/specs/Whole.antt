@@ -1,0 +1,30 @@
+-- Panels on one matrix, whose strips are matrices of their own.
+use Rattle.std.specs.Prelude.{ℕ, ◌+◌, ◌-◌, ◌<◌, ◌≤◌, slice_index, List}
+use Rattle.run_data.specs.Matrix.{Matrix, cols, entry, tabulate}
+use Rattle.serial_model.specs.Elimination.{Eliminated, exchanged}
+use Rattle.elimination.specs.Panels.{carried}
+
+-- the numbers of the list from first to first + n - 1 are rows, from 1 to m
+pub record AreRows (v : List ℕ) (first n m : ℕ) : Type 0 where
+  pub from : (k : ℕ) → first ≤ k → k < first + n → 0 < slice_index v k
+  pub to : (k : ℕ) → first ≤ k → k < first + n → slice_index v k ≤ m
+
+-- the columns after the exchanges
+abbrev pub with_rows_exchanged : Matrix → List ℕ → ℕ → ℕ → Matrix
+with_rows_exchanged x v first n = tabulate x.rows (cols x) (λ i k. exchanged v first n (λ r. entry x r k) i)
+
+-- the columns after a panel went over them, whose words stand in l from column 0 on
+abbrev pub with_carried : ℕ → (ℕ → ℕ) → Matrix → Matrix → List ℕ → ℕ → ℕ → Matrix
+with_carried p inverse x l v first n = tabulate x.rows (cols x) (λ i k. carried p inverse (λ i k. entry l i (k - first)) v first n (λ r. entry x r k) i)
+
+-- the words of a strip that begins at column `first`, by the columns of the whole matrix
+abbrev pub strip_words : ℕ → Matrix → ℕ → ℕ → ℕ
+strip_words first a i k = entry a i (k - first)
+
+-- the strip of m rows and n columns from column `first` on
+abbrev pub strip_of : ℕ → ℕ → ℕ → (ℕ → ℕ → ℕ) → Matrix
+strip_of m n first f = tabulate m n (λ i k. f i (first + k))
+
+-- the strip as a state of the elimination, after the pivots v
+abbrev pub strip_state : ℕ → Matrix → List ℕ → Eliminated
+strip_state first a v = record { words = strip_words first a; pivots = v; info = 0 }
