@@ -20,7 +20,7 @@ use Rattle.rank_machine.specs.declared.kernel.Kernel.TheVariants as k
 use Rattle.rank_machine.specs.declared.mark.Mark.{Mark}
 use Rattle.rank_machine.specs.declared.record.Rec.{Rec}
 use Rattle.rank_machine.specs.declared.record.Rec.TheVariants as r
-use Rattle.rank_machine.specs.Setting.{Job, Setting, some_job, layout, is_matrix, factored, group_count, strip_rows, block_at, global_row, global_col}
+use Rattle.rank_machine.specs.Setting.{Job, Setting, some_job, layout, is_matrix, factored, group_count, strip_of, global_row, global_col}
 use Rattle.rank_machine.specs.State.{same_kind, State, opened, at_rank, at_slot, at_link, base}
 
 -- the number that means none
@@ -87,12 +87,9 @@ with_piece old (piece.Whole slot) new = new
 with_piece old (piece.Part slot at) new = Words (with_copy (words_of old) at (words_of (Some new)) (record { r0 = 0; r1 = at.r1 - at.r0; c0 = 0; c1 = at.c1 - at.c0 }))
 
 -- ---- feeds
--- the strip of a group on a data rank, with zeros past the last column
+-- the tile that a feed puts into a slot of a data rank: the strip of the group of the file's matrix
 abbrev pub strip : Setting → ℕ → Slot → Tile
-strip s rank slot =
-    let d = layout s slot.id in
-    let block = block_at d slot.group (col_of d.grid rank) in
-    Words (tabulate (strip_rows d (row_of d.grid rank)) d.desc.nb (λ i j. if nat_lt (global_col d block j) d.desc.n then entry (s.files slot.id) (global_row d rank i) (global_col d block j) else 0))
+strip s rank slot = Words (strip_of (layout s slot.id) (s.files slot.id) rank slot.group)
 
 -- ---- kernels: each makes one tile
 abbrev pub target : Kernel → Piece

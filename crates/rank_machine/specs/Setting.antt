@@ -4,7 +4,7 @@ use Rattle.std.specs.Str.{bytes_eq}
 use Rattle.std.specs.Ordering.{nat_cmp}
 use Rattle.std.specs.FinMap as map
 use Rattle.field_core.specs.Residue.{inverse}
-use Rattle.run_data.specs.Matrix.{Matrix, zero_matrix}
+use Rattle.run_data.specs.Matrix.{Matrix, entry, tabulate, zero_matrix}
 use Rattle.run_data.specs.Script.{Numbered, commands_of, makes_records, operand}
 use Rattle.run_data.specs.declared.command.Command.{Command}
 use Rattle.run_data.specs.declared.command.Command.TheVariants as c
@@ -12,7 +12,7 @@ use Rattle.array_desc.specs.declared.Desc.{Desc}
 use Rattle.array_desc.specs.Descriptors.{desc_of}
 use Rattle.array_desc.specs.Maps.{global, numroc, ceil_div, groups, block_in}
 use Rattle.blacs_grid.specs.declared.Grid.{Grid}
-use Rattle.blacs_grid.specs.Places.{size, is_member, row_of}
+use Rattle.blacs_grid.specs.Places.{size, is_member, row_of, col_of}
 use Rattle.rank_machine.specs.declared.record.Loss.{Loss}
 
 -- ---- what the machine needs of a script
@@ -153,3 +153,9 @@ global_row d rank i = global i d.desc.mb (row_of d.grid rank) d.desc.rsrc d.grid
 
 abbrev pub global_col : Layout → ℕ → ℕ → ℕ
 global_col d block j = block * d.desc.nb + j
+
+-- the strip of a group of a matrix on a data rank, with zeros past the last column
+abbrev pub strip_of : Layout → Matrix → ℕ → ℕ → Matrix
+strip_of d m rank group =
+    let block = block_at d group (col_of d.grid rank) in
+    tabulate (strip_rows d (row_of d.grid rank)) d.desc.nb (λ i j. if nat_lt (global_col d block j) d.desc.n then entry m (global_row d rank i) (global_col d block j) else 0)

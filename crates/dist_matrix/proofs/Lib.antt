@@ -1,0 +1,4 @@
+pub mod EntryLaws
+pub mod StripLaws
+pub mod Cutting
+pub mod Placing
