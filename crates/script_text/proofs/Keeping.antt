@@ -1,8 +1,8 @@
 -- A script that is read keeps the rules.
 use Rattle.std.proofs.Common.{◌≡◌, ℕ, zero, suc, ◌<◌, ◌≤◌, Bool, true, false, cond, leb, List, [], ◌∷◌, ◌++◌, length, take, Option, Some, None, Result, Ok, Err, refl, sym, ap, subst, ◌∙◌, arith, inl, inr}
-use Rattle.std.specs.Prelude.{ℤ, pos, slice_get, nat_lt}
+use Rattle.std.specs.Prelude.{is_some, ℤ, pos, slice_get, nat_lt}
 use Rattle.std.specs.Option.{option_or}
-use Rattle.std.proofs.lemmas.Bool.{cases_lt, eqb-true, ltb-true}
+use Rattle.std.proofs.lemmas.Bool.{cases_lt, eqb-true, ltb-true, false≢true}
 use Rattle.std.proofs.lemmas.Bool.Decides.{nat_tests}
 use Rattle.std.proofs.lemmas.Option.{slice_get_within, same_Some}
 use Rattle.std.proofs.lemmas.List.{take-append-le}
@@ -13,8 +13,9 @@ use Rattle.script_text.specs.declared.fault.Refused.{Refused}
 use Rattle.script_text.specs.declared.kinds.CommandWord.{CommandWord}
 use Rattle.script_text.specs.declared.kinds.CommandWord.TheVariants as w
 use Rattle.script_text.specs.declared.kinds.Kind.{Kind}
-use Rattle.script_text.specs.declared.kinds.Kind.TheVariants.{NewName, GridName, MatrixName, ThingName, FileName}
+use Rattle.script_text.specs.declared.kinds.Kind.TheVariants.{NewName, GridName, MatrixName, ThingName, Number, FileName}
 use Rattle.script_text.specs.declared.rules.TheConstants.{MAX_LINES}
+use Rattle.script_text.specs.Numbers.{number_of}
 use Rattle.script_text.specs.Kinds.{command_word, kinds_of, has_count, is_built}
 use Rattle.script_text.specs.Rules.{first_code, word_rules, words_code, rules}
 use Rattle.script_text.specs.Commands.{◌>>=◌, word_at, number_at, grid_of, matrix_of, command_as, command_of}
@@ -151,6 +152,48 @@ answered script words c e = by_code (line_code script words) refl e
     by_code : (o : Option ℤ) → line_code script words ≡ o → answer_by script words o ≡ Ok c → (line_code script words ≡ None) × (command_of words ≡ c)
     by_code None o e = (o, cc)
     by_code (Some code) o e = absurd cc
+
+-- ---- a line that breaks no rule of its form spells a command
+
+number_read : (o : Option ℕ) → is_some o ≡ true → (n : ℕ) × (o ≡ Some n)
+number_read None t = absurd cc
+number_read (Some n) t = (n, refl)
+
+number_of_word : (script : List (Option Command)) (w : CommandWord) (first : List ℕ) (others : List (List ℕ)) (j : ℕ) → slice_get (kinds_of w) j ≡ Some Number → length (kinds_of w) ≡ length others → kinds_code script w others ≡ None →
+    (n : ℕ) × (number_at (first ∷ others) (suc j) ≡ Some n)
+number_of_word script w first others j k n e =
+    let code = words_code-at (commands_of script) (suc (length script)) (kinds_of w) others j Number k n e in
+    number_read (number_of (word_at others j)) (first_none (pos 3) (is_some (number_of (word_at others j))) [] code).0
+
+spelled : (script : List (Option Command)) (first : List ℕ) (others : List (List ℕ)) (w : CommandWord) → Formed script w others → (c : Command) × (command_as (Some w) (first ∷ others) ≡ Some c)
+unfolding command_as grid_of matrix_of
+spelled script first others w.Grid h =
+    let count : 4 ≡ length others = sym (eqb-true (length others) 4 h.count) in
+    let p = number_of_word script w.Grid first others 1 refl count h.words in
+    let q = number_of_word script w.Grid first others 2 refl count h.words in
+    let f = number_of_word script w.Grid first others 3 refl count h.words in
+    (Grid (word_at (first ∷ others) 1) p.0 q.0 f.0, rw p.1 (rw q.1 (rw f.1 refl)))
+spelled script first others w.Matrix h =
+    let count : 9 ≡ length others = sym (eqb-true (length others) 9 h.count) in
+    let m = number_of_word script w.Matrix first others 2 refl count h.words in
+    let n = number_of_word script w.Matrix first others 3 refl count h.words in
+    let mb = number_of_word script w.Matrix first others 4 refl count h.words in
+    let nb = number_of_word script w.Matrix first others 5 refl count h.words in
+    let rsrc = number_of_word script w.Matrix first others 6 refl count h.words in
+    let csrc = number_of_word script w.Matrix first others 7 refl count h.words in
+    (Matrix (word_at (first ∷ others) 1) (word_at (first ∷ others) 2) m.0 n.0 mb.0 nb.0 rsrc.0 csrc.0 (word_at (first ∷ others) 9), rw m.1 (rw n.1 (rw mb.1 (rw nb.1 (rw rsrc.1 (rw csrc.1 refl))))))
+spelled script first others w.Print h = (Print (word_at (first ∷ others) 1), refl)
+spelled script first others w.Discard h = (Discard (word_at (first ∷ others) 1), refl)
+spelled script first others w h = absurd (false≢true h.built)
+
+spelled_by : (script : List (Option Command)) (first : List ℕ) (others : List (List ℕ)) (o : Option CommandWord) → command_code script o others ≡ None → (c : Command) × (command_as o (first ∷ others) ≡ Some c)
+spelled_by script first others None e = absurd cc
+spelled_by script first others (Some w) e = spelled script first others w (formed script w others e)
+
+-- a line with words that breaks no rule of its form is a command
+pub command_spelled : (script : List (Option Command)) (first : List ℕ) (others : List (List ℕ)) → form_code_of script (first ∷ others) ≡ None → (c : Command) × (command_of (first ∷ others) ≡ Some c)
+unfolding command_of
+command_spelled script first others e = spelled_by script first others (command_word first) e
 
 -- ---- the answer of a line by its tests
 
