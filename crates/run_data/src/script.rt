@@ -78,6 +78,14 @@ impl Script {
         }
     }
 
+    /// The line that made what a name means as seen from a line: the last line before it that made something under that name, if no
+    /// line between drops it.
+    pub fn maker(&self, line: u32, name: &[u8]) -> Option<u32>
+        ensures { result ≡ maker (commands_of self.now) line name.now }
+    {
+        maker_of(&self.lines, line, name)
+    }
+
     /// The lines.
     pub fn as_slice(&self) -> &[Option<Command>]
         ensures { result.now ≡ self.now }

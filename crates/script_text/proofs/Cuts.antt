@@ -34,7 +34,7 @@ until_end stops (b ∷ bs) h =
 pub take_whole : (bs : List ℕ) (n : ℕ) → n ≡ length bs → take n bs ≡ bs
 take_whole bs n e = grind (arith, common_steps)
 
-pub drop_whole : (bs : List ℕ) (n : ℕ) → n ≡ length bs → drop n bs ≡ []
+pub drop_whole : {X : Type 0} (bs : List X) (n : ℕ) → n ≡ length bs → drop n bs ≡ []
 drop_whole bs n e = grind (arith, common_steps)
 
 line_step : (t : Bool) (b : ℕ) (bs : List ℕ) → onto_first b (lines_of bs) ≡ (b ∷ until is_line_feed bs) ∷ lines_of (drop 1 (from_on is_line_feed bs)) →

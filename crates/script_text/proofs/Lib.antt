@@ -1,5 +1,12 @@
 pub mod Cuts
-pub mod ScriptLoop
 pub mod Rows
 pub mod Texts
-pub mod Formed
+pub mod Words
+pub mod ScriptLoop
+pub mod Counting
+pub mod Keeping
+pub mod Limits
+pub mod Sizes
+pub mod Summing
+pub mod Filling
+pub mod Files

@@ -3,11 +3,13 @@ use Rattle.std.proofs.Common.{◌≡◌, ℕ, ◌<◌, true, false, cond, List, 
 use Rattle.script_text.specs.Lines.{until, from_on, is_line_feed, has_items, line_words}
 use Rattle.std.specs.List.{filter}
 use Rattle.std.specs.Prelude.{map}
+use Rattle.script_text.specs.Script.{word_lines}
 use Rattle.script_text.specs.MatrixFile.{rows_of}
 use Rattle.script_text.proofs.Cuts.{lines_of-cut}
 
 cut_rows : (text line after next : List ℕ) → 0 < length text → line ≡ until is_line_feed text → after ≡ from_on is_line_feed text → next ≡ drop 1 after →
     rows_of text ≡ cond (has_items (line_words line)) (line_words line ∷ rows_of next) (rows_of next)
+unfolding rows_of word_lines
 cut_rows [] line after next lt l a n = absurd (omega arith)
 cut_rows (b ∷ bs) line after next lt l a n =
     ap (λ ls. filter has_items (map line_words ls)) (lines_of-cut b bs)

@@ -1,45 +1,55 @@
--- Reading the lines of a script, as a loop does.
-use Rattle.std.proofs.Common.{◌≡◌, ℕ, ◌<◌, List, [], ◌∷◌, ◌++◌, length, drop, Option, Some, None, refl, sym, ap, ◌∙◌, append_assoc, arith}
-use Rattle.std.proofs.lemmas.List.{append-nil}
+-- Reading the lines of a script one after another, as a loop does.
+use Rattle.std.proofs.Common.{◌≡◌, ℕ, ◌<◌, List, [], ◌∷◌, ◌++◌, length, drop, map, Result, Ok, Err, refl, sym, ap, ◌∙◌, arith}
 use Rattle.run_data.specs.declared.command.Command.{Command}
+use Rattle.std.specs.Prelude.{Option}
+use Rattle.script_text.specs.declared.fault.Refused.{Refused}
+use Rattle.script_text.specs.declared.fault.TextFault.{TextFault}
+use Rattle.script_text.specs.declared.fault.TextFault.TheVariants as faults
+use Rattle.script_text.specs.Gives.{Fails}
 use Rattle.script_text.specs.Lines.{until, from_on, is_line_feed, lines_of, line_words}
-use Rattle.script_text.specs.Commands.{◌>>=◌, line_command, script_lines}
+use Rattle.script_text.specs.Script.{and_then, line_answer, script_after, word_lines}
 use Rattle.script_text.proofs.Cuts.{lines_of-cut}
 
--- what was read before, and what is still read
-abbrev pub with_front : List (Option Command) → Option (List (Option Command)) → Option (List (Option Command))
-with_front front read = read >>= λ cs. Some (front ++ cs)
+-- the first line as words, and the lines after it
+pub word_lines-cut : (text line after next : List ℕ) → 0 < length text → line ≡ until is_line_feed text → after ≡ from_on is_line_feed text → next ≡ drop 1 after →
+    word_lines text ≡ line_words line ∷ word_lines next
+unfolding word_lines
+word_lines-cut [] line after next lt l a n = absurd (omega arith)
+word_lines-cut (b ∷ bs) line after next lt l a n =
+    ap (map line_words) (lines_of-cut b bs)
+    ∙ ap (λ (p : List ℕ × List ℕ). line_words p.0 ∷ map line_words (lines_of p.1)) (sym (λ i. (l i, (n ∙ ap (drop 1) a) i)))
 
-regroup : (front : List (Option Command)) (c : Option Command) (read : Option (List (Option Command))) → with_front front (read >>= λ cs. Some (c ∷ cs)) ≡ with_front (front ++ c ∷ []) read
-regroup front c None = refl
-regroup front c (Some cs) = ap (λ (xs : List (Option Command)). Some xs) (sym (append_assoc front (c ∷ []) cs))
+pub word_lines-end : (text : List ℕ) → length text ≡ 0 → word_lines text ≡ []
+unfolding word_lines
+word_lines-end [] e = refl
+word_lines-end (b ∷ bs) e = absurd (omega arith)
 
-pub goes_on : (front front' : List (Option Command)) (text line after next : List ℕ) (c : Option Command) (total : Option (List (Option Command))) → 0 < length text →
-    line ≡ until is_line_feed text → after ≡ from_on is_line_feed text → next ≡ drop 1 after → Some c ≡ line_command (line_words line) → front' ≡ front ++ c ∷ [] →
-    with_front front (script_lines (lines_of text)) ≡ total → with_front front' (script_lines (lines_of next)) ≡ total
-unfolding script_lines
-goes_on front front' [] line after next c total lt l a n r f e = absurd (omega arith)
-goes_on front front' (b ∷ bs) line after next c total lt l a n r f e =
-    let cutting = lines_of-cut b bs in
-    let next_is : lines_of next ≡ lines_of (drop 1 (from_on is_line_feed (b ∷ bs))) = ap lines_of n ∙ ap (λ xs. lines_of (drop 1 xs)) a in
-    let said : line_command (line_words (until is_line_feed (b ∷ bs))) ≡ Some c = sym (r ∙ ap (λ xs. line_command (line_words xs)) l) in
-    let step : script_lines (lines_of (b ∷ bs)) ≡ (script_lines (lines_of (drop 1 (from_on is_line_feed (b ∷ bs)))) >>= λ cs. Some (c ∷ cs)) =
-    ap script_lines cutting ∙ ap (λ o. o >>= λ x. script_lines (lines_of (drop 1 (from_on is_line_feed (b ∷ bs)))) >>= λ cs. Some (x ∷ cs)) said in
-    ap (λ xs. with_front xs (script_lines (lines_of next))) f ∙ ap (λ ls. with_front (front ++ c ∷ []) (script_lines ls)) next_is
-    ∙ sym (regroup front c (script_lines (lines_of (drop 1 (from_on is_line_feed (b ∷ bs)))))) ∙ sym (ap (with_front front) step) ∙ e
+abbrev pub Answer : Type 0
+Answer = Result (List (Option Command)) Refused
 
-pub stops : (front : List (Option Command)) (text line : List ℕ) (total : Option (List (Option Command))) → 0 < length text →
-    line ≡ until is_line_feed text → None ≡ line_command (line_words line) → with_front front (script_lines (lines_of text)) ≡ total → None ≡ total
-unfolding script_lines
-stops front [] line total lt l r e = absurd (omega arith)
-stops front (b ∷ bs) line total lt l r e =
-    let cutting = lines_of-cut b bs in
-    let said : line_command (line_words (until is_line_feed (b ∷ bs))) ≡ None = sym (r ∙ ap (λ xs. line_command (line_words xs)) l) in
-    let step : script_lines (lines_of (b ∷ bs)) ≡ None =
-    ap script_lines cutting ∙ ap (λ o. o >>= λ x. script_lines (lines_of (drop 1 (from_on is_line_feed (b ∷ bs)))) >>= λ cs. Some (x ∷ cs)) said in
-    sym (ap (with_front front) step) ∙ e
+after_line : (front : List (Option Command)) (words : List (List ℕ)) (lines : List (List (List ℕ))) (a : Result (Option Command) Refused) → line_answer front words ≡ a →
+    script_after front (words ∷ lines) ≡ and_then a (λ c. script_after (front ++ c ∷ []) lines)
+unfolding script_after
+after_line front words lines a e = ap (λ x. and_then x (λ c. script_after (front ++ c ∷ []) lines)) e
 
-pub ends : (front : List (Option Command)) (text : List ℕ) (total : Option (List (Option Command))) → length text ≡ 0 → with_front front (script_lines (lines_of text)) ≡ total → Some front ≡ total
-unfolding script_lines
-ends front [] total z e = ap (λ (xs : List (Option Command)). Some xs) (sym (append-nil front)) ∙ e
-ends front (b ∷ bs) total z e = absurd (omega arith)
+-- a line that breaks no rule
+pub goes_on : (front front' : List (Option Command)) (text line after next : List ℕ) (words : List (List ℕ)) (c : Option Command) (total : Answer) → 0 < length text →
+    line ≡ until is_line_feed text → after ≡ from_on is_line_feed text → next ≡ drop 1 after → words ≡ line_words line → line_answer front words ≡ Ok c → front' ≡ front ++ c ∷ [] →
+    script_after front (word_lines text) ≡ total → script_after front' (word_lines next) ≡ total
+goes_on front front' text line after next words c total lt l a n w r f e =
+    let cutting = word_lines-cut text line after next lt l a n ∙ ap (λ ws. ws ∷ word_lines next) (sym w) in
+    ap (λ s. script_after s (word_lines next)) f ∙ sym (after_line front words (word_lines next) (Ok c) r) ∙ sym (ap (script_after front) cutting) ∙ e
+
+-- a line that breaks a rule
+pub stops : (front : List (Option Command)) (text line after next : List ℕ) (words : List (List ℕ)) (fault : TextFault) (total : Answer) → 0 < length text →
+    line ≡ until is_line_feed text → after ≡ from_on is_line_feed text → next ≡ drop 1 after → words ≡ line_words line → Fails fault (line_answer front words) →
+    script_after front (word_lines text) ≡ total → Fails fault total
+stops front text line after next words faults.NoMemory total lt l a n w r e = tt
+stops front text line after next words (faults.Refused x) total lt l a n w r e =
+    let cutting = word_lines-cut text line after next lt l a n ∙ ap (λ ws. ws ∷ word_lines next) (sym w) in
+    sym e ∙ ap (script_after front) cutting ∙ after_line front words (word_lines next) (Err x) r
+
+-- no further line
+pub ends : (front : List (Option Command)) (text : List ℕ) (total : Answer) → length text ≡ 0 → script_after front (word_lines text) ≡ total → total ≡ Ok front
+unfolding script_after
+ends front text total z e = sym e ∙ ap (script_after front) (word_lines-end text z)

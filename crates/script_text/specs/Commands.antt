@@ -1,9 +1,10 @@
 -- The lines of a script as commands.
-use Rattle.std.specs.Prelude.{ℕ, ◌==◌, if◌then◌else◌, Bool, ◌&&◌, List, [], ◌∷◌, length, codes, slice_get, unwrap_or, Option, Some, None}
-use Rattle.std.specs.Str.{bytes_eq}
+use Rattle.std.specs.Prelude.{ℕ, List, [], ◌∷◌, slice_get, unwrap_or, Option, Some, None}
 use Rattle.run_data.specs.declared.command.Command.{Command}
-use Rattle.run_data.specs.declared.command.Command.TheVariants.{Grid, Matrix, Print}
-use Rattle.script_text.specs.Lines.{line_words}
+use Rattle.run_data.specs.declared.command.Command.TheVariants.{Grid, Matrix, Print, Discard}
+use Rattle.script_text.specs.declared.kinds.CommandWord.{CommandWord}
+use Rattle.script_text.specs.declared.kinds.CommandWord.TheVariants as w
+use Rattle.script_text.specs.Kinds.{command_word}
 use Rattle.script_text.specs.Numbers.{number_of}
 
 -- the first value that is missing makes the whole missing
@@ -38,24 +39,15 @@ matrix_of words = do
   csrc ← number_at words 8
   Some (Matrix (word_at words 1) (word_at words 2) m n mb nb rsrc csrc (word_at words 9))
 
--- a line begins with this word and has so many words
-abbrev pub begins : List (List ℕ) → List ℕ → ℕ → Bool
-begins words name count = length words == count && bytes_eq (word_at words 0) name
+-- the command of a line, by its first word
+unfoldable pub command_as : Option CommandWord → List (List ℕ) → Option Command
+command_as (Some w.Grid) words = grid_of words
+command_as (Some w.Matrix) words = matrix_of words
+command_as (Some w.Print) words = Some (Print (word_at words 1))
+command_as (Some w.Discard) words = Some (Discard (word_at words 1))
+command_as _ words = None
 
+-- the command that a line spells; a line without words has none
 unfoldable pub command_of : List (List ℕ) → Option Command
-command_of words =
-    if begins words (codes "grid") 5 then grid_of words
-    else (if begins words (codes "matrix") 10 then matrix_of words
-    else (if begins words (codes "print") 2 then Some (Print (word_at words 1)) else None))
-
--- the command of a line; a line without words has none
-unfoldable pub line_command : List (List ℕ) → Option (Option Command)
-line_command words = if length words == 0 then Some None else (command_of words >>= λ c. Some (Some c))
-
--- the commands of lines, if each line with words is a command
-unfoldable pub script_lines : List (List ℕ) → Option (List (Option Command))
-script_lines [] = Some []
-script_lines (line ∷ lines) = do
-  c ← line_command (line_words line)
-  cs ← script_lines lines
-  Some (c ∷ cs)
+command_of [] = None
+command_of (first ∷ others) = command_as (command_word first) (first ∷ others)

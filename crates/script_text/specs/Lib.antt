@@ -1,8 +1,12 @@
 pub mod Lines
 pub mod Numbers
 pub mod Names
+pub mod Kinds
+pub mod Rules
+pub mod Counted
 pub mod Commands
+pub mod Bounds
 pub mod Script
-pub mod Form
+pub mod Accepted
 pub mod MatrixFile
 pub mod Gives

@@ -1,20 +1,71 @@
--- The script that a text is.
-use Rattle.std.specs.Prelude.{ℕ, if◌then◌else◌, List, Option, Some, None, Result, Ok, Err, pos}
+-- The script that a text is, or the first rule that it breaks.
+use Rattle.std.specs.Prelude.{ℕ, suc, if◌then◌else◌, nat_lt, nat_le, List, [], ◌∷◌, ◌++◌, length, map, Option, Some, None, Result, Ok, Err, ℤ, pos}
+use Rattle.std.specs.Option.{option_or}
 use Rattle.run_data.specs.declared.command.Command.{Command}
 use Rattle.run_data.specs.Script.{commands_of}
 use Rattle.script_text.specs.declared.fault.Refused.{Refused}
-use Rattle.script_text.specs.Lines.{lines_of}
-use Rattle.script_text.specs.Commands.{script_lines}
-use Rattle.script_text.specs.Form.{is_form}
+use Rattle.script_text.specs.declared.kinds.CommandWord.{CommandWord}
+use Rattle.script_text.specs.declared.rules.TheConstants.{MAX_LINES}
+use Rattle.script_text.specs.declared.bounds.TheConstants.{MAX_RECORDS}
+use Rattle.script_text.specs.Lines.{lines_of, line_words}
+use Rattle.script_text.specs.Kinds.{command_word, kinds_of, has_count, is_built}
+use Rattle.script_text.specs.Rules.{first_code, words_code, rules}
+use Rattle.script_text.specs.Commands.{command_of}
+use Rattle.script_text.specs.Bounds.{bound}
 
--- this form of file is not read yet
-abbrev pub not_read : ℕ → Refused
-not_read file = record { file = file; line = 0; code = pos 18 }
+-- a rule of the script, by the line that breaks it; line 0 is the whole script
+abbrev pub refused : ℕ → ℤ → Refused
+refused line code = record { file = 0; line = line; code = code }
 
-abbrev pub form_of : Option (List (Option Command)) → Result (List (Option Command)) Refused
-form_of None = Err (not_read 0)
-form_of (Some script) = if is_form (commands_of script) then Ok script else Err (not_read 0)
+-- the first rule of its form that a line breaks, by its command and its other words: a command, the number of words, a command that is
+-- built, and each word from left to right
+abbrev pub command_code : List (Option Command) → Option CommandWord → List (List ℕ) → Option ℤ
+command_code script None others = Some (pos 1)
+command_code script (Some c) others =
+    option_or (first_code ((pos 2, has_count c (length others)) ∷ (pos 18, is_built c) ∷ [])) (words_code (commands_of script) (suc (length script)) (kinds_of c) others)
 
--- the script that the bytes spell, or the refusal
+abbrev pub form_code_of : List (Option Command) → List (List ℕ) → Option ℤ
+form_code_of script [] = None
+form_code_of script (first ∷ others) = command_code script (command_word first) others
+
+-- the same after the rule that a script has no further line
+unfoldable pub form_code : List (Option Command) → List (List ℕ) → Option ℤ
+form_code script words = option_or (first_code ((pos 11, nat_lt (length script) MAX_LINES) ∷ [])) (form_code_of script words)
+
+-- the first of its command's rules that a line breaks
+unfoldable pub rule_code : List (Option Command) → Option Command → Option ℤ
+rule_code script None = None
+rule_code script (Some c) = first_code (rules (commands_of script) (suc (length script)) c)
+
+-- the first rule that a line with these words breaks, after the lines of a script
+unfoldable pub line_code : List (Option Command) → List (List ℕ) → Option ℤ
+line_code script words = option_or (form_code script words) (rule_code script (command_of words))
+
+abbrev pub answer_by : List (Option Command) → List (List ℕ) → Option ℤ → Result (Option Command) Refused
+answer_by script words None = Ok (command_of words)
+answer_by script words (Some code) = Err (refused (suc (length script)) code)
+
+-- the command of a line, or the first rule that it breaks
+unfoldable pub line_answer : List (Option Command) → List (List ℕ) → Result (Option Command) Refused
+line_answer script words = answer_by script words (line_code script words)
+
+abbrev pub and_then : {A B : Type 0} → Result A Refused → (A → Result B Refused) → Result B Refused
+and_then (Err r) next = Err r
+and_then (Ok x) next = next x
+
+-- the script of lines after the lines of a script, each read after those before it
+unfoldable pub script_after : List (Option Command) → List (List (List ℕ)) → Result (List (Option Command)) Refused
+script_after script [] = Ok script
+script_after script (words ∷ lines) = and_then (line_answer script words) (λ c. script_after (script ++ c ∷ []) lines)
+
+-- the lines of a text, each as its words
+unfoldable pub word_lines : List ℕ → List (List (List ℕ))
+word_lines bytes = map line_words (lines_of bytes)
+
+-- after all lines: the bound on the records
+unfoldable pub bounded : List (Option Command) → Result (List (Option Command)) Refused
+bounded script = if nat_le (bound (commands_of script)) MAX_RECORDS then Ok script else Err (refused 0 (pos 7))
+
+-- the script that the bytes spell, or the first rule that they break
 unfoldable pub script_of : List ℕ → Result (List (Option Command)) Refused
-script_of bytes = form_of (script_lines (lines_of bytes))
+script_of bytes = and_then (script_after [] (word_lines bytes)) bounded

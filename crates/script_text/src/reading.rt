@@ -1,40 +1,146 @@
 //! Reading a script.
-ghost use Rattle.std.specs.Prelude.{◌≡◌, ◌≤◌, length, IfOk};
-ghost use Rattle.script_text.specs.Gives.{Gives};
-ghost use Rattle.script_text.specs.Script.{script_of, not_read};
-ghost use Rattle.script_text.specs.Form.{IsForm};
+ghost use Rattle.std.specs.Prelude.{◌≡◌, ◌≤◌, ◌<◌, ◌++◌, ◌∷◌, [], suc, length, Ok, Err, IfOk, IfErr, IfNone, OnOk, pos};
+ghost use Rattle.run_data.specs.Script.{commands_of};
+ghost use Rattle.script_text.specs.Gives.{Gives, Fails};
+ghost use Rattle.script_text.specs.Counted.{AreCounts};
+ghost use Rattle.script_text.specs.Script.{refused, command_code, form_code_of, form_code, line_answer, script_after, word_lines, script_of};
+ghost use Rattle.script_text.specs.Accepted.{IsAccepted};
 
-use crate::commands::script_lines;
+use crate::bounds::{MAX_RECORDS, bound};
+use crate::commands::command_of;
+use crate::counts::Counts;
 use crate::fault::{Refused, TextFault};
-use crate::form::is_form;
-use run_data::Script;
+use crate::kinds::{CommandWord, command_word};
+use crate::lines::{Stop, cut, line_words, skip_one};
+use crate::rules::{MAX_LINES, words_code};
+use run_data::{Command, Script, Word};
 use std::alloc::Global;
 
-/// The refusal of a file of a form that is not read yet.
-pub fn not_read(file: u32) -> Refused
-    ensures { result ≡ not_read file }
+// The refusal of a script whose bound is too high.
+fn above_bound() -> Refused
+    ensures { result ≡ refused 0 (pos 7) }
 {
     Refused {
-        file,
+        file: 0,
         line: 0,
-        code: 18,
+        code: 7,
     }
 }
 
-/// The script that the bytes spell. So far one form is read: three lines with words, `grid G 1 1 0`, `matrix A G 1 1 1 1 0 0 FILE`
-/// and `print A`, where G and A are different names and FILE is UTF-8. Every other script is refused with code 18 at line 0.
+// The first rule of its form that a line breaks, by its command and its other words.
+fn command_code(script: &Script, command: Option<CommandWord>, others: &[Word]) -> Option<i32>
+    requires { length script.now < MAX_LINES }
+    ensures { result ≡ command_code script.now command others.now }
+{
+    let Some(command) = command else {
+        return Some(1);
+    };
+    if !command.has_count(others.len()) {
+        return Some(2);
+    }
+    if !command.is_built() {
+        return Some(18);
+    }
+    words_code(script, script.lines() + 1, command.kinds(), others)
+}
+
+// The first rule of its form that a line with these words breaks.
+#[tactic(auto, unfolding(crate::specs::Script::form_code))]
+fn form_code(script: &Script, words: &[Word]) -> Option<i32>
+    ensures code { result ≡ form_code script.now words.now }
+    ensures few { IfNone result (length script.now < MAX_LINES) }
+{
+    if script.lines() >= MAX_LINES {
+        return Some(11);
+    }
+    match words {
+        [] => None,
+        [first, others @ ..] => command_code(script, command_word(first.bytes()), others),
+    }
+}
+
+// A line of a script, and what the script counts with it.
+#[derive(Drop)]
+struct Read {
+    command: Option<Command>,
+    counts: Counts,
+}
+
+// The next line of a script.
+fn read_line(
+    alloc: Global,
+    script: &Script,
+    counts: Counts,
+    words: &[Word],
+) -> Result<Read, TextFault>
+    requires few { length script.now ≤ MAX_LINES }
+    requires counts { AreCounts counts (length script.now) (commands_of script.now) }
+    ensures line { IfOk result (λ r. line_answer script.now words.now ≡ Ok r.command) }
+    ensures few { OnOk result (length script.now < MAX_LINES) }
+    ensures counted { IfOk result (λ r. AreCounts r.counts (suc (length script.now)) (commands_of (script.now ++ r.command ∷ []))) }
+    ensures refused { IfErr result (λ e. Fails e (line_answer script.now words.now)) }
+{
+    let line = script.lines() + 1;
+    if let Some(code) = form_code(script, words) {
+        return Err(TextFault::Refused(Refused {
+            file: 0,
+            line,
+            code,
+        }));
+    }
+    let Some(command) = command_of(alloc, words)? else {
+        return Ok(Read {
+            command: None,
+            counts,
+        });
+    };
+    match counts.after(script, line, &command) {
+        Ok(counts) => Ok(Read {
+            command: Some(command),
+            counts,
+        }),
+        Err(code) => Err(TextFault::Refused(Refused {
+            file: 0,
+            line,
+            code,
+        })),
+    }
+}
+
+// The script of the lines, without the bound.
+fn read_lines(alloc: Global, bytes: &[u8]) -> Result<Script, TextFault>
+    ensures { Gives result (script_after [] (word_lines bytes.now)) }
+{
+    let mut script = Script::new(alloc);
+    let mut counts = Counts::new();
+    let mut rest = bytes;
+    while !rest.is_empty() {
+        let (line, after) = cut(rest, Stop::LineFeed);
+        let words = line_words(alloc, line)?;
+        let read = match read_line(alloc, &script, counts, &words) {
+            Ok(read) => read,
+            Err(fault) => return Err(fault),
+        };
+        counts = read.counts;
+        script.push(read.command)?;
+        rest = skip_one(after);
+    }
+    Ok(script)
+}
+
+/// The script that the bytes spell. The refusal is the first broken rule: of the first line that breaks one, by its number, the first
+/// in the order of codes 11, 1 and 2, then of the words from left to right, then of the rules of its command; and at line 0, code 7,
+/// where the records of all lines are more than 4,194,304. A line whose command is not read yet has code 18 after code 2, and a `grid`
+/// line with code columns after code 9.
 #[tactic(auto, unfolding(crate::specs::Script::script_of))]
 pub fn parse_script(alloc: Global, bytes: &[u8]) -> Result<Script, TextFault>
     requires { length bytes.now ≤ 16777216 }
     ensures read { Gives result (script_of bytes.now) }
-    ensures form { IfOk result IsForm }
+    ensures accepted { IfOk result IsAccepted }
 {
-    let Some(script) = script_lines(alloc, bytes)? else {
-        return Err(TextFault::Refused(not_read(0)));
-    };
-    if is_form(script.as_slice()) {
-        Ok(script)
-    } else {
-        Err(TextFault::Refused(not_read(0)))
+    let script = read_lines(alloc, bytes)?;
+    if MAX_RECORDS < bound(&script) {
+        return Err(TextFault::Refused(above_bound()));
     }
+    Ok(script)
 }

@@ -1,21 +1,56 @@
 //! Scripts, matrix files and texts by example.
 ghost use Rattle.std.specs.Prelude.{◌≤◌, length};
 
-use crate::{Refused, TextFault, info_text, matrix_text, parse_matrix, parse_script, pivots_text};
-use run_data::{Command, IndexList, Mat, Script};
+use crate::{
+    Refused, TextFault, bound, info_text, matrix_text, parse_matrix, parse_script, pivots_text,
+};
+use run_data::{Command, IndexList, Mat};
 use std::alloc::{AllocError as NoMemory, Global};
 use std::test::Fail;
 
-// Whether the form is refused, and by the one refusal.
-fn is_refused(read: Result<Script, TextFault>) -> bool {
-    matches!(
-        read,
-        Err(TextFault::Refused(Refused {
-            file: 0,
-            line: 0,
-            code: 18
-        }))
-    )
+// The line and the code of a script's refusal; line 0 and code 0 where it is accepted.
+fn refusal(alloc: Global, text: &[u8]) -> Result<(u32, i32), NoMemory>
+    requires { length text.now ≤ 16777216 }
+{
+    match parse_script(alloc, text) {
+        Ok(_) => Ok((0, 0)),
+        Err(TextFault::Refused(refused)) => Ok((refused.line, refused.code)),
+        Err(TextFault::NoMemory) => Err(NoMemory),
+    }
+}
+
+// The number of records of an accepted script, and 0 of another.
+fn records(alloc: Global, text: &[u8]) -> u64
+    requires { length text.now ≤ 16777216 }
+{
+    match parse_script(alloc, text) {
+        Ok(script) => bound(&script),
+        Err(_) => 0,
+    }
+}
+
+// A script of a head and then so many times the same text.
+fn repeated(alloc: Global, head: &[u8], text: &[u8], times: u32) -> Result<Vec<u8>, NoMemory> {
+    let mut all = head.to_vec(alloc)?;
+    for _ in 0..times {
+        all.extend_from_slice(text)?;
+    }
+    Ok(all)
+}
+
+// The refusal of a script of a head and then so many times the same text.
+fn repeated_refusal(
+    alloc: Global,
+    head: &[u8],
+    text: &[u8],
+    times: u32,
+) -> Result<(u32, i32), NoMemory> {
+    let all = repeated(alloc, head, text, times)?;
+    if all.len() <= 16_777_216 {
+        refusal(alloc, &all)
+    } else {
+        Ok((0, 12))
+    }
 }
 
 #[test]
@@ -45,71 +80,248 @@ fn reads_a_script(rt: HostRuntime) -> Result<(), Fail> {
 }
 
 #[test]
-fn reads_and_refuses_scripts(rt: HostRuntime) {
-    let read: [&[u8]; 4] = [
+fn reads_scripts(rt: HostRuntime) -> Result<(), Fail> {
+    let read: [&[u8]; 8] = [
+        b"",
+        b"# nothing\r\n\n\t \n",
         b"grid g 1 1 0\nmatrix A g 1 1 1 1 0 0 f\nprint A\n",
         b"grid abcdefghij_12345 1 1 0\nmatrix A abcdefghij_12345 1 1 1 1 0 0 f\nprint A\r",
         b"grid G 1 1 0\nmatrix g G 1 1 1 1 0 0 \xc3\xa9\nprint g#\r\r",
-        b"grid g 1 1 0\r\nmatrix A g 1 1 1 1 0 0 f\r#\nprint A\n\n",
+        b"grid g 2 3 0\ngrid h 16 1 0\nmatrix A g 3 4 2 2 1 2 a\nmatrix B h 1024 1024 128 128 15 0 b\nprint B\ndrop A\nprint B\n",
+        b"grid g 1 1 0\nmatrix A g 1 1 1 1 0 0 f\ndrop A\nmatrix A g 2 1 1 1 0 0 f\nprint A",
+        b"grid g 16 4 0",
     ];
     for text in read {
-        assert!(rt; parse_script(rt.alloc(), text).is_ok());
+        assert_eq!(rt; refusal(rt.alloc(), text)?, (0, 0));
     }
-    let refused: [&[u8]; 12] = [
-        b"",
-        b"grid g 1 1 0\nmatrix A g 1 1 1 1 0 0 f\n",
-        b"grid g 1 1 0\nmatrix A g 1 1 1 1 0 0 f\nprint A\nprint A\n",
-        b"grid g 1 1 0\nmatrix g g 1 1 1 1 0 0 f\nprint g\n",
-        b"grid g 1 1 0\nmatrix A g 1 1 1 1 0 0\nprint A\n",
-        b"grid g 1 1 0\nmatrix A g 1 1 1 1 0 0 f\nprint B\n",
-        b"grid g 1 1 0\nmatrix A g 1 1 1 1 0 0 f\nprint A\r\r\n",
-        b"grid abcdefghij_123456 1 1 0\nmatrix A abcdefghij_123456 1 1 1 1 0 0 f\nprint A\n",
-        b"grid 1g 1 1 0\nmatrix A 1g 1 1 1 1 0 0 f\nprint A\n",
-        b"grid g 00000000001 1 0\nmatrix A g 1 1 1 1 0 0 f\nprint A\n",
-        b"grid g 1 1 0\nmatrix A g 1 1 1 1 0 0 \xff\nprint A\n",
-        b"GRID g 1 1 0\nmatrix A g 1 1 1 1 0 0 f\nprint A\n",
-    ];
-    for text in refused {
-        assert!(rt; is_refused(parse_script(rt.alloc(), text)));
-    }
+    Ok(())
 }
 
-// The word of a matrix file, or the number of the file that a refusal names.
-fn word_of(alloc: Global, bytes: &[u8]) -> Result<u32, u32>
-    requires { length bytes.now ≤ 16777216 }
-{
-    match parse_matrix(alloc, bytes, 2, 1, 1) {
-        Ok(matrix) if matrix.rows() == 1 && matrix.cols() == 1 => Ok(matrix.get(0, 0)),
-        Err(
-            TextFault::Refused(
-                Refused {
-                    file,
-                    line: 0,
-                    code: 18,
-                },
-            ),
-        ) => Err(file),
-        _ => Err(0),
+#[test]
+fn refuses_words(rt: HostRuntime) -> Result<(), Fail> {
+    let refused: [(&[u8], (u32, i32)); 22] = [
+        (b"qr A", (1, 1)),
+        (b"\n\nGRID g 1 1 0", (3, 1)),
+        (b"grid g 1 1", (1, 2)),
+        (b"grid g 1 1 0 0", (1, 2)),
+        (b"order", (1, 2)),
+        (b"order 1 2 3", (1, 18)),
+        (b"pgetrf 1 1 A 1 1", (1, 2)),
+        (b"pgetrf x x x x x x", (1, 18)),
+        (b"lose 1 1", (1, 18)),
+        (b"grid g 1 x 0", (1, 3)),
+        (b"grid g 00000000001 1 0", (1, 3)),
+        (b"grid g 4294967296 1 0", (1, 3)),
+        (b"grid 1g x 1 0", (1, 4)),
+        (b"grid abcdefghij_123456 1 1 0", (1, 4)),
+        (
+            b"grid g 1 1 0\nmatrix A g 1 1 1 1 0 0 \xff\nprint A",
+            (2, 4),
+        ),
+        (b"grid g 1 1 0\ngrid g x 1 0", (2, 5)),
+        (b"grid g 1 1 0\nmatrix g x 1 1 1 1 0 0 f", (2, 5)),
+        (b"print Z", (1, 6)),
+        (b"grid g 1 1 0\nprint g", (2, 6)),
+        (b"grid g 1 1 0\nmatrix A h 0 1 1 1 0 0 \xff", (2, 6)),
+        (
+            b"grid g 1 1 0\nmatrix A g 1 1 1 1 0 0 f\ndrop A\nprint A",
+            (4, 6),
+        ),
+        (
+            b"grid g 1 1 0\nmatrix A g 1 1 1 1 0 0 f\nprint A\r\r\n",
+            (3, 6),
+        ),
+    ];
+    for (text, first) in refused {
+        assert_eq!(rt; refusal(rt.alloc(), text)?, first);
+    }
+    Ok(())
+}
+
+#[test]
+fn refuses_numbers(rt: HostRuntime) -> Result<(), Fail> {
+    let refused: [(&[u8], (u32, i32)); 17] = [
+        (b"grid g 17 1 0", (1, 8)),
+        (b"grid g 1 0 9", (1, 8)),
+        (b"grid g 16 16 5", (1, 8)),
+        (b"grid g 16 4 1", (1, 9)),
+        (b"grid g 16 4 0\ngrid h 1 1 1", (2, 9)),
+        (b"grid g 1 1 1", (1, 18)),
+        (b"grid g 1 1 0\nmatrix A g 0 0 1 1 0 0 f", (2, -3)),
+        (b"grid g 1 1 0\nmatrix A g 1025 1 0 1 0 0 f", (2, -3)),
+        (b"grid g 1 1 0\nmatrix A g 1 1025 0 1 0 0 f", (2, -4)),
+        (b"grid g 1 1 0\nmatrix A g 1 1 0 1 0 0 f", (2, -5)),
+        (b"grid g 1 1 0\nmatrix A g 1 1 129 129 0 0 f", (2, -5)),
+        (b"grid g 1 1 0\nmatrix A g 1 1 128 129 0 0 f", (2, -6)),
+        (b"grid g 1 1 0\nmatrix A g 1 1 1 0 1 1 f", (2, -6)),
+        (b"grid g 2 1 0\nmatrix A g 1 1 1 1 2 1 f", (2, -7)),
+        (b"grid g 2 1 0\nmatrix A g 1 1 1 1 1 1 f", (2, -8)),
+        (b"grid g 1 2 0\nmatrix A g 1 1 1 1 1 1 f", (2, -7)),
+        (b"grid g 1 1 0\nmatrix A g 0 1 1 1 0 0 f\nqr", (2, -3)),
+    ];
+    for (text, first) in refused {
+        assert_eq!(rt; refusal(rt.alloc(), text)?, first);
+    }
+    Ok(())
+}
+
+#[test]
+fn counts_lines_and_matrices(rt: HostRuntime) -> Result<(), Fail> {
+    let alloc = rt.alloc();
+    assert_eq!(rt; repeated_refusal(alloc, b"", b"\n", 4096)?, (0, 0));
+    assert_eq!(rt; repeated_refusal(alloc, b"", b"#\n", 4097)?, (4097, 11));
+    assert_eq!(rt; repeated_refusal(alloc, b"\n\nqr\n", b"\n", 4097)?, (3, 1));
+    let head = b"grid g 1 1 0\n";
+    let again = b"matrix A g 1 1 1 1 0 0 f\ndrop A\n";
+    assert_eq!(rt; repeated_refusal(alloc, head, again, 256)?, (0, 0));
+    assert_eq!(rt; repeated_refusal(alloc, head, again, 257)?, (514, 10));
+    let wide = b"grid g 16 1 0\nmatrix A g 1024 1024 128 128 0 0 a.txt\n";
+    assert_eq!(rt; repeated_refusal(alloc, wide, b"print A\n", 256)?, (0, 0));
+    assert_eq!(rt;
+        repeated_refusal(alloc, wide, b"print A\n", 257)?,
+        (259, 10)
+    );
+    Ok(())
+}
+
+// A line of a matrix, or of a grid, named by a letter and a number.
+fn add_line(all: &mut Vec<u8>, first: &[u8], number: u8, rest: &[u8]) -> Result<(), NoMemory> {
+    all.extend_from_slice(first)?;
+    all.push(b'a' + number / 10 % 10)?;
+    all.push(b'0' + number % 10)?;
+    all.extend_from_slice(rest)
+}
+
+// The refusal of a script of a head and so many lines, each with a name of its own.
+fn named_refusal(
+    alloc: Global,
+    head: &[u8],
+    first: &[u8],
+    rest: &[u8],
+    count: u8,
+) -> Result<(u32, i32), NoMemory> {
+    let mut all = head.to_vec(alloc)?;
+    for number in 0..count {
+        add_line(&mut all, first, number, rest)?;
+    }
+    if all.len() <= 16_777_216 {
+        refusal(alloc, &all)
+    } else {
+        Ok((0, 12))
     }
 }
 
 #[test]
-fn reads_and_refuses_matrix_files(rt: HostRuntime) {
-    let files: [(&[u8], Result<u32, u32>); 9] = [
-        (b"7", Ok(7)),
-        (b" 007\r\n", Ok(7)),
-        (b"# a word\n\n65536 # the last", Ok(65536)),
-        (b"65537", Err(2)),
-        (b"7 8\n", Err(2)),
-        (b"7\n8\n", Err(2)),
-        (b"", Err(2)),
-        (b"7a", Err(2)),
-        (b"7\r\r\n", Err(2)),
-    ];
-    for (bytes, word) in files {
-        assert_eq!(rt; word_of(rt.alloc(), bytes), word);
+fn counts_live_matrices_and_ranks(rt: HostRuntime) -> Result<(), Fail> {
+    let alloc = rt.alloc();
+    let head = b"grid G 1 1 0\n";
+    let rest = b" G 1 1 1 1 0 0 f\n";
+    assert_eq!(rt; named_refusal(alloc, head, b"matrix ", rest, 16)?, (0, 0));
+    assert_eq!(rt; named_refusal(alloc, head, b"matrix ", rest, 17)?, (18, 10));
+    assert_eq!(rt;
+        named_refusal(alloc, b"", b"grid ", b" 1 1 0\n", 64)?,
+        (0, 0)
+    );
+    assert_eq!(rt;
+        named_refusal(alloc, b"", b"grid ", b" 1 1 0\n", 65)?,
+        (65, 9)
+    );
+    Ok(())
+}
+
+#[test]
+fn bounds_records(rt: HostRuntime) -> Result<(), Fail> {
+    let alloc = rt.alloc();
+    let one = b"grid g 1 1 0\nmatrix A g 1 1 1 1 0 0 f\nprint A\ndrop A\n";
+    assert_eq!(rt; records(alloc, one), 5);
+    let six = b"grid g 2 3 0\nmatrix A g 3 4 2 2 1 2 a\nprint A\n";
+    assert_eq!(rt; records(alloc, six), 14);
+    let wide = b"grid g 16 1 0\nmatrix A g 1024 1024 1 1 0 0 a.txt\n";
+    let most = repeated(alloc, wide, b"print A\n", 254)?;
+    assert!(rt; most.len() <= 16_777_216);
+    assert_eq!(rt; records(alloc, &most), 4_178_175);
+    assert_eq!(rt; repeated_refusal(alloc, wide, b"print A\n", 255)?, (0, 7));
+    Ok(())
+}
+
+// The line and the code of a matrix file's refusal; line 0 and code 0 where it is read.
+fn file_refusal(alloc: Global, bytes: &[u8], m: u32, n: u32) -> Result<(u32, i32), NoMemory>
+    requires { length bytes.now ≤ 16777216 }
+{
+    match parse_matrix(alloc, bytes, 2, m, n) {
+        Ok(_) => Ok((0, 0)),
+        Err(TextFault::Refused(Refused { file, line, code })) => {
+            if file == 2 {
+                Ok((line, code))
+            } else {
+                Ok((line, 12))
+            }
+        }
+        Err(TextFault::NoMemory) => Err(NoMemory),
     }
-    assert!(rt; parse_matrix(rt.alloc(), b"7", 2, 1, 2).is_err());
+}
+
+#[test]
+fn reads_a_matrix_file(rt: HostRuntime) -> Result<(), Fail> {
+    let bytes = b"# words\r\n1 2\t3\r\n\n 0000000004 5 65536 # the last";
+    let matrix = parse_matrix(rt.alloc(), bytes, 2, 2, 3)?;
+    assert_eq!(rt; matrix.rows(), 2);
+    assert_eq!(rt; matrix.cols(), 3);
+    let words: [u32; 6] = [1, 4, 2, 5, 3, 65536];
+    assert_eq!(rt; matrix.words(), words.as_slice());
+    Ok(())
+}
+
+#[test]
+fn refuses_matrix_files(rt: HostRuntime) -> Result<(), Fail> {
+    let files: [(&[u8], u32, u32, (u32, i32)); 16] = [
+        (b"7", 1, 1, (0, 0)),
+        (b"\n7\r", 1, 1, (0, 0)),
+        (b"65537", 1, 1, (1, 15)),
+        (b"7a", 1, 1, (1, 15)),
+        (b"7 8\n", 1, 1, (1, 14)),
+        (b"7\n\n8\n", 1, 1, (3, 13)),
+        (b"7\n8 x\n", 1, 1, (2, 13)),
+        (b"", 1, 1, (0, 13)),
+        (b"7\r\r\n", 1, 1, (1, 15)),
+        (b"2 1\n1\n", 2, 2, (2, 14)),
+        (b"2 1\n", 2, 2, (0, 13)),
+        (b"2\n1 1 1\n", 2, 2, (1, 14)),
+        (b"x y z\n1 1\n", 2, 2, (1, 14)),
+        (b"x 1\n1\n", 2, 2, (1, 15)),
+        (b"1 2 3\n", 2, 3, (0, 13)),
+        (b"1 2\n3 4\n5 6\n", 3, 2, (0, 0)),
+    ];
+    for (bytes, m, n, first) in files {
+        assert_eq!(rt; file_refusal(rt.alloc(), bytes, m, n)?, first);
+    }
+    Ok(())
+}
+
+#[test]
+fn refuses_files_cut_off(rt: HostRuntime) -> Result<(), Fail> {
+    let whole = b"2 1\n1 1\n";
+    let firsts: [(u32, i32); 9] = [
+        (0, 13),
+        (1, 14),
+        (1, 14),
+        (0, 13),
+        (0, 13),
+        (2, 14),
+        (2, 14),
+        (0, 0),
+        (0, 0),
+    ];
+    for (count, first) in firsts.into_iter().enumerate() {
+        if count <= 8 {
+            assert_eq!(rt;
+                file_refusal(rt.alloc(), &whole[..count], 2, 2)?,
+                first,
+                "{count}"
+            );
+        }
+    }
+    Ok(())
 }
 
 // The matrix of rows 1 2 3 and 4 5 65536.

@@ -1,11 +1,25 @@
-use Rattle.std.proofs.Common.{sym, ap, ◌∙◌}
+use Rattle.std.proofs.Common.{◌<◌, ◌≤◌, Err, sym, ap, ◌∙◌, arith}
 use Rattle.run_data.specs.Script.{commands_of}
-use Rattle.script_text.specs.Form.{is_form}
-use Rattle.script_text.proofs.Formed.{IsForm-from_is_form, script_lines-few}
+use Rattle.script_text.specs.Script.{word_lines}
+use Rattle.script_text.specs.Bounds.{bound}
+use Rattle.script_text.specs.declared.bounds.TheConstants.{MAX_RECORDS}
+use Rattle.script_text.proofs.Keeping.{KeepsRules-from_script_after, read-all, read-above}
 use Rattle.script_text.proofs.reading.parse_script.Goals as goal
 
-pub returns-then-is_form-clause-form : goal.returns-then-is_form-clause-form
-returns-then-is_form-clause-form c =
-    let script = c.in-Some.script in
-    IsForm-from_is_form script (ap (λ s. is_form (commands_of s)) (sym c.as_slice.ensures) ∙ sym c.is_form.ensures ∙ c.if-is_form.true)
-    (script_lines-few c.args.bytes.now script c.requires (sym c.in_ok-script.ensures ∙ c.in-Some.is))
+pub bound-requires : goal.bound-requires
+bound-requires c = KeepsRules-from_script_after (word_lines c.args.bytes.now) c.in_ok-script.script c.in_ok-script.ensures
+
+pub returns-then-bound-gt-MAX_RECORDS-clause-read : goal.returns-then-bound-gt-MAX_RECORDS-clause-read
+returns-then-bound-gt-MAX_RECORDS-clause-read c =
+    let above : MAX_RECORDS < bound (commands_of c.in_ok-script.script) = omega (arith, c.bound.ensures, c.if-bound-gt-MAX_RECORDS.true) in
+    read-above c.args.bytes.now c.in_ok-script.script c.in_ok-script.ensures above ∙ ap (λ r. Err r) (sym c.above_bound.ensures)
+
+pub returns-clause-read : goal.returns-clause-read
+returns-clause-read c =
+    let within : bound (commands_of c.in_ok-script.script) ≤ MAX_RECORDS = omega (arith, c.bound.ensures, c.if-bound-gt-MAX_RECORDS.false) in
+    read-all c.args.bytes.now c.in_ok-script.script c.in_ok-script.ensures within
+
+pub returns-clause-accepted : goal.returns-clause-accepted
+returns-clause-accepted c =
+    let within : bound (commands_of c.in_ok-script.script) ≤ MAX_RECORDS = omega (arith, c.bound.ensures, c.if-bound-gt-MAX_RECORDS.false) in
+    record { lines = KeepsRules-from_script_after (word_lines c.args.bytes.now) c.in_ok-script.script c.in_ok-script.ensures; bounded = within }

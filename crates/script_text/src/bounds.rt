@@ -1,0 +1,124 @@
+//! How many records a script makes.
+ghost use Rattle.std.specs.Prelude.{◌≡◌, ◌≤◌, ◌<◌, ◌+◌, ◌*◌, ◌^◌, suc, length, slice_get, Some};
+ghost use Rattle.array_desc.specs.Maps.{groups};
+ghost use Rattle.run_data.specs.Script.{commands_of, maker};
+ghost use Rattle.script_text.specs.Accepted.{KeepsRules};
+ghost use Rattle.script_text.specs.Bounds.{matrix_records, print_records, records_of_matrix, print_on, records_of_print, records_in, bound};
+ghost use Rattle.script_text.specs.Rules.{maker_command};
+
+use crate::rules::maker_command;
+use array_desc::groups;
+use run_data::{Command, Script};
+
+/// The greatest number of records that a script may make.
+pub const MAX_RECORDS: u64 = 4_194_304;
+
+/// The number of records that a script makes when no rank is lost.
+#[tactic(auto, unfolding(crate::specs::Bounds::bound))]
+pub fn bound(script: &Script) -> u64
+    requires { KeepsRules script.now }
+    ensures { result ≡ bound (commands_of script.now) }
+{
+    let lines = script.as_slice();
+    let mut sum = 0;
+    for i in 0..lines.len() {
+        if let Some(command) = &lines[i] {
+            sum += records_in(script, i, command);
+        }
+    }
+    sum
+}
+
+// The records of the command at a place of a script.
+fn records_in(script: &Script, place: usize, command: &Command) -> u64
+    requires rules { KeepsRules script.now }
+    requires there { slice_get script.now place ≡ Some (Some command.now) }
+    requires few { place < 2 ^ 31 }
+    ensures value { result ≡ records_in (commands_of script.now) (suc place) command.now }
+    ensures few { result ≤ 4000000 }
+{
+    let line = place as u32 + 1;
+    match command {
+        Command::Matrix { grid, n, nb, .. } => {
+            records_of_matrix(script, line, grid.bytes(), *n, *nb)
+        }
+        Command::Print { name } => records_of_print(script, line, name.bytes()),
+        Command::Discard { .. } => 1,
+        _ => 0,
+    }
+}
+
+// The records of a `matrix` line of `n` columns in blocks of `nb` on the grid of a name.
+fn records_of_matrix(script: &Script, line: u32, grid: &[u8], n: u32, nb: u32) -> u64
+    requires rules { KeepsRules script.now }
+    requires columns { n ≤ 1024 }
+    requires block { 0 < nb }
+    ensures value { result ≡ records_of_matrix (maker_command (commands_of script.now) line grid.now) n nb }
+    ensures few { result ≤ 4000000 }
+{
+    match maker_command(script, line, grid) {
+        Some(Command::Grid { p, q, f, .. }) => {
+            let groups = groups(n, nb, *q);
+            matrix_records(
+                u64::from(*p),
+                u64::from(*q),
+                u64::from(*f),
+                u64::from(groups),
+            )
+        }
+        _ => 0,
+    }
+}
+
+// The records of a line that prints the matrix of a name.
+fn records_of_print(script: &Script, line: u32, name: &[u8]) -> u64
+    requires { KeepsRules script.now }
+    ensures value { result ≡ records_of_print (commands_of script.now) (maker (commands_of script.now) line name.now) (maker_command (commands_of script.now) line name.now) }
+    ensures few { result ≤ 4000000 }
+{
+    let Some(maker) = script.maker(line, name) else {
+        return 0;
+    };
+    match script.command(maker) {
+        Some(Command::Matrix { grid, n, nb, .. }) => print_on(script, maker, grid.bytes(), *n, *nb),
+        _ => 0,
+    }
+}
+
+// The records of a print of a matrix of `n` columns in blocks of `nb`, made by a line on the grid of a name.
+fn print_on(script: &Script, line: u32, grid: &[u8], n: u32, nb: u32) -> u64
+    requires rules { KeepsRules script.now }
+    requires columns { n ≤ 1024 }
+    requires block { 0 < nb }
+    ensures value { result ≡ print_on (maker_command (commands_of script.now) line grid.now) n nb }
+    ensures few { result ≤ 4000000 }
+{
+    match maker_command(script, line, grid) {
+        Some(Command::Grid { p, q, .. }) => {
+            let groups = groups(n, nb, *q);
+            print_records(u64::from(*p), u64::from(*q), u64::from(groups))
+        }
+        _ => 0,
+    }
+}
+
+fn matrix_records(p: u64, q: u64, f: u64, groups: u64) -> u64
+    requires rows { p ≤ 16 }
+    requires columns { q ≤ 16 }
+    requires code_columns { f ≤ 4 }
+    requires few { groups ≤ 1024 }
+    ensures value { result ≡ matrix_records p q f groups }
+    ensures few { result ≤ 4000000 }
+{
+    p * groups * (q + f * (3 * q + 1)) + 1
+}
+
+fn print_records(p: u64, q: u64, groups: u64) -> u64
+    requires rows { p ≤ 16 }
+    requires columns { q ≤ 16 }
+    requires few { groups ≤ 1024 }
+    ensures value { result ≡ print_records p q groups }
+    ensures few { result ≤ 4000000 }
+{
+    p * q * groups + 1
+}
