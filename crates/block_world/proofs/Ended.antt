@@ -1,5 +1,5 @@
--- Where no line drops anything, a strip of a matrix is live exactly when the line of the matrix has ended.
-use Rattle.std.proofs.Common.{◌≡◌, ◌<◌, ◌≤◌, ℕ, suc, Bool, true, false, cond, List, [], ◌∷◌, Option, Some, None, is_some, refl, sym, ap, ◌∙◌, ⊎_elim, arith}
+-- A strip of a matrix is live exactly when the line of the matrix has ended and the matrix has not been dropped.
+use Rattle.std.proofs.Common.{◌≡◌, ◌<◌, ◌≤◌, ◌++◌, ℕ, suc, Bool, true, false, cond, List, [], ◌∷◌, Option, Some, None, is_some, refl, sym, ap, ◌∙◌, ⊎_elim, arith}
 use Rattle.std.specs.Prelude.{◌&&◌, ◌||◌, ◌==◌, not, nat_lt}
 use Rattle.std.proofs.lemmas.Bool.{true≢false, cases_lt}
 use Rattle.std.proofs.lemmas.Bool.Decides.{nat_tests}
@@ -14,10 +14,11 @@ use Rattle.rank_machine.specs.declared.slot.Slot.{Slot}
 use Rattle.rank_machine.specs.declared.slot.Tile.{Tile}
 use Rattle.rank_machine.specs.declared.mark.Mark.{Mark}
 use Rattle.rank_machine.specs.Setting.{Job, Setting, some_job, no_job, job_in, layout, is_matrix, group_count}
-use Rattle.rank_machine.specs.Scripts.{Matrices, job_of, jobs_from, grids_from, setting_of}
+use Rattle.rank_machine.specs.Scripts.{Matrices, job_of, jobs_from, grids_from, line_meant, setting_of}
 use Rattle.rank_machine.specs.State.{same_kind}
 use Rattle.rank_machine.specs.Effect.{has_ended, is_dropped, is_live_kind, is_live}
-use Rattle.block_world.specs.OneRank.{DropsNothing}
+use Rattle.block_world.specs.declared.drops.Dropping.{Dropping}
+use Rattle.block_world.specs.Drops.{drop_made, drops_in, is_dropped_by, stays_under}
 use Rattle.block_world.specs.Replay.{IsStripSlot}
 
 -- ---- no line of a script has the number 0
@@ -58,42 +59,54 @@ positive script files line h =
     absurd (true≢false (sym h ∙ ap (is_matrix (setting_of script files)) e ∙ no_matrix-zero script files)))
     (cases_lt 0 line)
 
--- ---- nothing is dropped
-or_parts : (a b : Bool) → (a || b) ≡ false → (a ≡ false) × (b ≡ false)
-or_parts true b h = absurd (true≢false h)
-or_parts false b h = (refl, h)
+-- ---- what has been dropped
+nothing : (ended : Bool) (what : ℕ) (b : Bool) → 0 < what → ((ended && (0 == what)) || b) ≡ b
+nothing false what b pos = refl
+nothing true what b pos = let e : (0 == what) ≡ false = grind (arith, nat_tests) in rw e refl
 
-drops_other : (ended : Bool) (drops what : ℕ) → 0 < what → nat_lt 0 drops ≡ false → (ended && (drops == what)) ≡ false
-drops_other false drops what pos h = refl
-drops_other true drops what pos h = grind (arith, nat_tests)
+dropped_next : (ns : List Numbered) (grids : List Grid) (line : ℕ) (command : Command) (mark : Mark) (what : ℕ) (js : List Job) (ds : List Dropping) → 0 < what
+    → some_job js (λ j. has_ended mark j.line && (j.drops == what)) ≡ is_dropped_by ds mark what
+    → some_job (cond (makes_records command) (job_of ns grids line command ∷ js) js) (λ j. has_ended mark j.line && (j.drops == what)) ≡ is_dropped_by (drop_made ns line command ++ ds) mark what
+dropped_next ns grids line (c.Grid name p q f) mark what js ds pos e = e
+dropped_next ns grids line (c.Matrix name grid m n mb nb rsrc csrc file) mark what js ds pos e = nothing (has_ended mark line) what _ pos ∙ e
+dropped_next ns grids line (c.Pgemm transa transb m n k alpha a ia ja b ib jb beta x ic jc) mark what js ds pos e = nothing (has_ended mark line) what _ pos ∙ e
+dropped_next ns grids line (c.Ptrsm side uplo transa diag m n alpha a ia ja b ib jb) mark what js ds pos e = nothing (has_ended mark line) what _ pos ∙ e
+dropped_next ns grids line (c.Pgetrf m n a ia ja v) mark what js ds pos e = nothing (has_ended mark line) what _ pos ∙ e
+dropped_next ns grids line (c.Pgetrs trans n nrhs a ia ja v b ib jb) mark what js ds pos e = nothing (has_ended mark line) what _ pos ∙ e
+dropped_next ns grids line (c.Pgemr2d m n a ia ja b ib jb ctxt) mark what js ds pos e = nothing (has_ended mark line) what _ pos ∙ e
+dropped_next ns grids line (c.Print name) mark what js ds pos e = nothing (has_ended mark line) what _ pos ∙ e
+dropped_next ns grids line (c.Pivots name) mark what js ds pos e = nothing (has_ended mark line) what _ pos ∙ e
+dropped_next ns grids line (c.Discard name) mark what js ds pos e = ap (λ b. (has_ended mark line && (line_meant ns line 1 == what)) || b) e
+dropped_next ns grids line (c.Topology kind) mark what js ds pos e = e
+dropped_next ns grids line (c.Links n) mark what js ds pos e = e
+dropped_next ns grids line (c.Order numbers) mark what js ds pos e = e
+dropped_next ns grids line (c.Lose at rank) mark what js ds pos e = e
 
-undropped : (jobs : List Job) (mark : Mark) (what : ℕ) → 0 < what → some_job jobs (λ j. nat_lt 0 j.drops) ≡ false
-    → some_job jobs (λ j. has_ended mark j.line && (j.drops == what)) ≡ false
-undropped [] mark what pos h = refl
-undropped (j ∷ js) mark what pos h =
-    let p = or_parts (nat_lt 0 j.drops) (some_job js (λ x. nat_lt 0 x.drops)) h in
-    rw (drops_other (has_ended mark j.line) j.drops what pos p.0) (undropped js mark what pos p.1)
+dropped_by : (ns : List Numbered) (grids : List Grid) (more : List Numbered) (mark : Mark) (what : ℕ) → 0 < what
+    → some_job (jobs_from ns grids more) (λ j. has_ended mark j.line && (j.drops == what)) ≡ is_dropped_by (drops_in ns more) mark what
+dropped_by ns grids [] mark what pos = refl
+dropped_by ns grids (n ∷ more) mark what pos = dropped_next ns grids n.line n.command mark what (jobs_from ns grids more) (drops_in ns more) pos (dropped_by ns grids more mark what pos)
 
 -- ---- what is live
-by_kind : (s : Setting) (mark : Mark) (slot : Slot) (kind : SlotKind) → same_kind kind Data ≡ true → is_live_kind s mark 0 slot kind ≡ is_live_kind s mark 0 slot Data
-by_kind s mark slot Data h = refl
-by_kind s mark slot Code h = absurd (true≢false (sym h))
-by_kind s mark slot Low h = absurd (true≢false (sym h))
-by_kind s mark slot Open h = absurd (true≢false (sym h))
-by_kind s mark slot Pivots h = absurd (true≢false (sym h))
-by_kind s mark slot Work h = absurd (true≢false (sym h))
+by_kind : (s : Setting) (mark : Mark) (rank : ℕ) (slot : Slot) (kind : SlotKind) → same_kind kind Data ≡ true → is_live_kind s mark rank slot kind ≡ is_live_kind s mark rank slot Data
+by_kind s mark rank slot Data h = refl
+by_kind s mark rank slot Code h = absurd (true≢false (sym h))
+by_kind s mark rank slot Low h = absurd (true≢false (sym h))
+by_kind s mark rank slot Open h = absurd (true≢false (sym h))
+by_kind s mark rank slot Pivots h = absurd (true≢false (sym h))
+by_kind s mark rank slot Work h = absurd (true≢false (sym h))
 
-all_but : (a b m e d : Bool) → a ≡ true → b ≡ true → m ≡ true → d ≡ false → ((a && b) && ((m && e) && not d)) ≡ e
-all_but a b m true d ha hb hm hd = rw (ha, hb, hm, hd) refl
-all_but a b m false d ha hb hm hd = rw (ha, hb, hm) refl
+all_but : (a b m e d d' : Bool) → a ≡ true → b ≡ true → m ≡ true → d ≡ d' → ((a && b) && ((m && e) && not d)) ≡ (e && not d')
+all_but a b m e d d' ha hb hm hd = rw (ha, hb, hm, hd) refl
 
-is_live-strip : (script : List (Option Command)) (files : Matrices) (mark : Mark) (slot : Slot) → DropsNothing (setting_of script files)
-    → IsStripSlot (setting_of script files) slot → is_live (setting_of script files) mark 0 slot ≡ has_ended mark slot.id
-is_live-strip script files mark slot drops strip =
+is_live-strip : (script : List (Option Command)) (files : Matrices) (mark : Mark) (rank : ℕ) (slot : Slot) → IsStripSlot (setting_of script files) rank slot
+    → is_live (setting_of script files) mark rank slot ≡ stays_under (drops_in (commands_of script) (commands_of script)) mark slot.id
+is_live-strip script files mark rank slot strip =
     let s : Setting = setting_of script files in
-    by_kind s mark slot slot.kind strip.kind
-    ∙ all_but (is_data_rank (layout s slot.id).grid 0) (nat_lt slot.group (group_count (layout s slot.id))) (is_matrix s slot.id) (has_ended mark slot.id) (is_dropped s mark slot.id)
-    strip.owner strip.group strip.matrix (undropped s.jobs mark slot.id (positive script files slot.id strip.matrix) drops)
+    let ns : List Numbered = commands_of script in
+    by_kind s mark rank slot slot.kind strip.kind
+    ∙ all_but (is_data_rank (layout s slot.id).grid rank) (nat_lt slot.group (group_count (layout s slot.id))) (is_matrix s slot.id) (has_ended mark slot.id) (is_dropped s mark slot.id) (is_dropped_by (drops_in ns ns) mark slot.id)
+    strip.owner strip.group strip.matrix (dropped_by ns (grids_from 0 ns) ns mark slot.id (positive script files slot.id strip.matrix))
 
 same_kept : (t : Option Tile) (a b : Bool) → (is_some t ≡ true → a ≡ b) → cond a t None ≡ cond b t None
 same_kept (Some t) a b h = ap (λ x. cond x (Some t) None) (h refl)
@@ -103,8 +116,9 @@ same_kept None false true h = refl
 same_kept None false false h = refl
 
 -- what a commit keeps
-pub kept-is_live : (script : List (Option Command)) (files : Matrices) (mark : Mark) (slot : Slot) (tile : Option Tile) → DropsNothing (setting_of script files)
-    → (is_some tile ≡ true → IsStripSlot (setting_of script files) slot)
-    → cond (has_ended mark slot.id) tile None ≡ cond (is_live (setting_of script files) mark 0 slot) tile None
-kept-is_live script files mark slot tile drops strips =
-    same_kept tile (has_ended mark slot.id) (is_live (setting_of script files) mark 0 slot) (λ e. sym (is_live-strip script files mark slot drops (strips e)))
+pub kept-is_live : (script : List (Option Command)) (files : Matrices) (mark : Mark) (rank : ℕ) (slot : Slot) (tile : Option Tile)
+    → (is_some tile ≡ true → IsStripSlot (setting_of script files) rank slot)
+    → cond (stays_under (drops_in (commands_of script) (commands_of script)) mark slot.id) tile None ≡ cond (is_live (setting_of script files) mark rank slot) tile None
+kept-is_live script files mark rank slot tile strips =
+    same_kept tile (stays_under (drops_in (commands_of script) (commands_of script)) mark slot.id) (is_live (setting_of script files) mark rank slot)
+    (λ e. sym (is_live-strip script files mark rank slot (strips e)))

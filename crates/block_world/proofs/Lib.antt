@@ -1,5 +1,6 @@
 mod Kept
 mod Places
 mod Ended
+mod Memories
 mod Replayed
 mod OneWord

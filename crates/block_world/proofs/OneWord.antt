@@ -1,5 +1,5 @@
 -- The run of a matrix of one word is legal, record by record.
-use Rattle.std.proofs.Common.{◌≡◌, ◌∷◌, ℕ, false, List, [], Option, Some, refl, sym, ap, subst, ◌∙◌}
+use Rattle.std.proofs.Common.{◌≡◌, arith, ◌∷◌, ℕ, false, List, [], Option, Some, refl, sym, ap, subst, ◌∙◌}
 use Rattle.std.specs.Prelude.{codes, unwrap_or}
 use Rattle.std.specs.FinMap as map
 use Rattle.std.proofs.lemmas.Cmp.{nat_cmp_total}
@@ -15,7 +15,7 @@ use Rattle.rank_machine.specs.State.{end_mark}
 use Rattle.rank_machine.specs.Effect.{strip}
 use Rattle.rank_machine.specs.Legal.{IsLegalRec}
 use Rattle.rank_machine.proofs.Agree.{IsLegalRec-from_test}
-use Rattle.block_world.specs.OneRank.{HasOneRank, DropsNothing}
+use Rattle.block_world.specs.Sound.{AreGrids, IsSound}
 use Rattle.block_world.specs.World.{WorldView, setting_in, state_of, noted}
 
 abbrev pub lines : List (Option Command)
@@ -39,11 +39,11 @@ taken files = noted (held files) (r.Take 0 slot)
 pub at_first-of : (w : WorldView) (script : List (Option Command)) (files : Matrices) → w ≡ record { script = script; files = files; journal = []; room = 5 } → script ≡ lines → w ≡ at_first files
 at_first-of w script files e l = e ∙ ap (λ (n : List (Option Command)). record { script = n; files = files; journal = []; room = 5 }) l
 
-pub has_one_rank : (script : List (Option Command)) (files : Matrices) → script ≡ lines → HasOneRank (setting_of script files)
-has_one_rank script files e = subst (λ (l : List (Option Command)). HasOneRank (setting_of l files)) (sym e) refl
+one_grid : AreGrids (record { p = 1; q = 1; f = 0; first = 0 } ∷ [])
+one_grid = (record { some_rows = omega arith; rows = omega arith; some_columns = omega arith; columns = omega arith; code_columns = omega arith; ranks = omega arith }, tt)
 
-pub drops_nothing : (script : List (Option Command)) (files : Matrices) → script ≡ lines → DropsNothing (setting_of script files)
-drops_nothing script files e = subst (λ (l : List (Option Command)). DropsNothing (setting_of l files)) (sym e) refl
+pub is_sound : (script : List (Option Command)) (files : Matrices) → script ≡ lines → IsSound (setting_of script files)
+is_sound script files e = subst (λ (l : List (Option Command)). IsSound (setting_of l files)) (sym e) (record { grids = one_grid })
 
 pub can_feed : (w : WorldView) (files : Matrices) → w ≡ at_first files → IsLegalRec (setting_in w) (state_of w) (r.Feed 0 slot)
 can_feed w files e =

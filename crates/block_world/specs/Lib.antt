@@ -1,4 +1,5 @@
-pub mod OneRank
+pub mod Sound
+pub mod Drops
 pub mod Memory
 pub mod Log
 pub mod Kept

@@ -1,8 +1,10 @@
 //! The world: what the ranks of the rank machine hold, kept at every return as the replay of a legal journal.
 #![tactic(auto)]
 
+mod drops;
 mod keeper;
 mod memory;
+mod ranks;
 mod world;
 
 pub use rank_machine::{Cut, Kernel, Loss, Mark, Piece, Rec, Slot, SlotKind, Tile};

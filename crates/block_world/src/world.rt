@@ -1,14 +1,17 @@
-//! The world of one rank.
+//! The world of ranks.
 ghost use Rattle.std.specs.Prelude.{◌≡◌, ◌≢◌, ◌<◌, [], false, filter, length, IfOk, OnOk, OnErr, IsOk};
 ghost use Rattle.rank_machine.specs.Scripts.{setting_of};
+ghost use Rattle.rank_machine.specs.Setting.{ranks};
 ghost use Rattle.rank_machine.specs.Effect.{strip};
 ghost use Rattle.rank_machine.specs.Legal.{IsLegal, IsLegalRec};
 ghost use Rattle.rank_machine.specs.Losses.{is_numbered};
 ghost use Rattle.rank_machine.specs.declared.record.Rec.TheVariants.{Feed, Take, Commit};
-ghost use Rattle.block_world.specs.OneRank.{HasOneRank, DropsNothing};
+ghost use Rattle.block_world.specs.Sound.{IsSound};
 
+use crate::drops::{Dropping, drops_of};
 use crate::keeper::Keeper;
-use crate::memory::{Held, find, keep_ended, put};
+use crate::memory::{Memory, find, keep_live, make_room, put};
+use crate::ranks::memories_of;
 use rank_machine::{Mark, Rec, Slot, Tile};
 use run_data::{Files, Mat, Script};
 use std::alloc::{AllocError, Global};
@@ -35,7 +38,8 @@ pub struct World<'a> {
     alloc: Global,
     script: &'a Script,
     files: &'a Files,
-    tiles: Vec<Held>,
+    drops: Vec<Dropping>,
+    memories: Vec<Memory>,
     mark: Mark,
     keeper: Keeper,
 }
@@ -59,24 +63,25 @@ impl<'a> World<'a> {
     ghost use Rattle.block_world.specs.World.{setting_in, state_of, noted};
     ghost use Rattle.block_world.specs.Taken.{tile_taken};
 
-    /// A world in which nothing has happened yet, with room for so many records. For now its script has one rank in all its
-    /// grids and no line that drops anything.
+    /// A world in which nothing has happened yet, with room for so many records.
     pub fn open(
         alloc: Global,
         script: &'a Script,
         files: &'a Files,
         room: u32,
     ) -> Result<World<'a>, AllocError>
-        requires one_rank { HasOneRank (setting_of script.now files.now) }
-        requires drops_nothing { DropsNothing (setting_of script.now files.now) }
+        requires { IsSound (setting_of script.now files.now) }
         ensures { IfOk result (λ w. w ≡ record { script = script.now; files = files.now; journal = []; room = room }) }
     {
+        let drops = drops_of(alloc, script)?;
+        let memories = memories_of(alloc, script)?;
         let keeper = Keeper::new(alloc, room)?;
         Ok(World {
             alloc,
             script,
             files,
-            tiles: Vec::new(alloc),
+            drops,
+            memories,
             mark: Mark::first(),
             keeper,
         })
@@ -90,9 +95,9 @@ impl<'a> World<'a> {
         ensures noted { OnOk result (self.new ≡ noted self.old (Feed rank slot)) }
         ensures kept { OnErr result (self.new ≡ self.old) }
     {
-        self.tiles.reserve(1)?;
+        make_room(&mut self.memories, rank)?;
         self.keeper.note(Rec::Feed(rank, slot))?;
-        put(&mut self.tiles, slot, Tile::Words(m));
+        put(&mut self.memories, rank, slot, Tile::Words(m));
         Ok(Did::Done)
     }
 
@@ -104,7 +109,7 @@ impl<'a> World<'a> {
         ensures noted { OnOk result (self.new ≡ noted self.old (Take rank slot)) }
         ensures kept { OnErr result (self.new ≡ self.old) }
     {
-        let tile = match find(&self.tiles, slot) {
+        let tile = match find(&self.memories, rank, slot) {
             Some(tile) => tile.copy(self.alloc)?,
             None => unreachable!(),
         };
@@ -122,7 +127,7 @@ impl<'a> World<'a> {
         ensures memory { 0 < self.old.room → IsOk result }
     {
         self.keeper.note(Rec::Commit(mark, false))?;
-        keep_ended(&mut self.tiles, mark);
+        keep_live(&mut self.memories, &self.drops, mark);
         self.mark = mark;
         Ok(Did::Done)
     }

@@ -3,14 +3,11 @@ use Rattle.rank_machine.specs.declared.record.Rec.TheVariants.{Feed, Take, Commi
 use Rattle.rank_machine.specs.declared.mark.Mark.{Mark}
 use Rattle.rank_machine.specs.Legal.{IsLegalRec}
 use Rattle.block_world.specs.World.{WorldView, setting_in, state_of, noted}
-use Rattle.block_world.proofs.OneWord.{slot, at_first, at_first-of, fed, held, taken, has_one_rank, drops_nothing, can_feed, can_commit, can_take, can_end, brings}
+use Rattle.block_world.proofs.OneWord.{slot, at_first, at_first-of, fed, held, taken, is_sound, can_feed, can_commit, can_take, can_end, brings}
 use Rattle.block_world.proofs.tests.one_word.Goals as goal
 
 pub open-requires : goal.open-requires
-open-requires g c = record {
-  one_rank = has_one_rank c.in_ok-script.script c.in_ok-files.files c.in_ok-script.ensures;
-  drops_nothing = drops_nothing c.in_ok-script.script c.in_ok-files.files c.in_ok-script.ensures;
-}
+open-requires g c = is_sound c.in_ok-script.script c.in_ok-files.files c.in_ok-script.ensures
 
 pub feed-requires : goal.feed-requires
 feed-requires g c =

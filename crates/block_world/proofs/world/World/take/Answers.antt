@@ -14,6 +14,8 @@ invariant_of-self-2 c =
     IsReplay-noted c.self.inside _ x refl c.self.invariant
     (subst (λ w. IsLegalRec (setting_in w) (state_of w) x) (sym v) c.requires.legal) refl
     (HoldsStrips-take (setting_in old) (state_of old) c.args.rank c.args.slot c.self.invariant.holds)
+    c.self.invariant.drops_are
+    refl
     c.in_ok-note.ensures.noted
     c.self.invariant.mark_is
     c.self.invariant.tiles_are
