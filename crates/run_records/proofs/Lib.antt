@@ -1,0 +1,23 @@
+pub mod Lines
+pub mod Jobs
+pub mod Places
+pub mod Holding
+pub mod Feeding
+pub mod Laws
+pub mod Commits
+pub mod Taking
+pub mod PlainRun
+pub mod Journal
+pub mod Order
+pub mod Steps
+pub mod FromJobs
+mod Worked
+pub mod EntryPlaces
+pub mod Takes
+pub mod Committed
+pub mod PrintedLines
+pub mod PrintedMatrices
+pub mod Names
+pub mod SerialText
+pub mod LineJobs
+pub mod PrintedText
