@@ -1,0 +1,30 @@
+use Rattle.std.proofs.Common.{Some, subst, sym, ap, ◌∙◌}
+use Rattle.rank_machine.specs.declared.slot.Tile.TheVariants.{Words}
+use Rattle.rank_machine.specs.Scripts.{file_of}
+use Rattle.rank_machine.specs.Setting.{strip_of}
+use Rattle.script_run.specs.Layouts.{layout_in}
+use Rattle.script_run.specs.Noted.{noted_all, MayNote}
+use Rattle.script_run.specs.Runnable.{printed_on, records_of}
+use Rattle.script_run.proofs.Noting.{on_ok}
+use Rattle.script_run.proofs.Underway.{print-records}
+use Rattle.script_run.proofs.running.run_line.Goals as goal
+
+pub run_print-requires-clause-held : goal.run_print-requires-clause-held
+run_print-requires-clause-held c = λ rank group names.
+    let script = c.args.script.now in
+    let what = printed_on script c.args.line in
+    c.requires.may.held c.in-Print.name c.in-Print.is rank group names
+    ∙ ap (λ files. Some (Words (strip_of (layout_in script what) (file_of files what) rank group))) (sym c.requires.same.files_are)
+
+pub run_print-requires-clause-legal : goal.run_print-requires-clause-legal
+run_print-requires-clause-legal c =
+    let f = c.in-Print in
+    subst (MayNote c.args.world.now)
+    (ap (records_of c.args.script.now c.args.files.now c.args.line) f.is ∙ print-records c.args.script.now c.args.files.now c.args.line f.name (c.requires.may.prints f.name f.is))
+    c.requires.may.legal
+
+pub returns-in-Print-clause-noted : goal.returns-in-Print-clause-noted
+returns-in-Print-clause-noted c =
+    let f = c.in-Print in
+    let same = ap (records_of c.args.script.now c.args.files.now c.args.line) f.is ∙ print-records c.args.script.now c.args.files.now c.args.line f.name (c.requires.may.prints f.name f.is) in
+    on_ok c.run_print.result _ _ c.run_print.ensures.noted (λ e. e ∙ ap (noted_all c.args.world.now) (sym same))

@@ -1,0 +1,25 @@
+-- A world after several records, one after another.
+use Rattle.std.specs.Prelude.{ℕ, List, [], ◌∷◌, Some, ◌≡◌}
+use Rattle.run_data.specs.Matrix.{Matrix}
+use Rattle.rank_machine.specs.declared.slot.SlotKind.TheVariants.{Data}
+use Rattle.rank_machine.specs.declared.slot.Tile.TheVariants.{Words}
+use Rattle.rank_machine.specs.declared.record.Rec.{Rec}
+use Rattle.rank_machine.specs.Setting.{Layout, strip_of}
+use Rattle.rank_machine.specs.State.{State}
+use Rattle.rank_machine.specs.CodeLaw.{slot_at}
+use Rattle.rank_machine.specs.Legal.{IsLegalFrom}
+use Rattle.block_world.specs.World.{WorldView, setting_in, state_of, noted}
+use Rattle.dist_matrix.specs.Strips.{NamesStrip}
+
+-- the world with these records at the journal's end
+abbrev pub noted_all : WorldView → List Rec → WorldView
+noted_all w [] = w
+noted_all w (r ∷ rs) = noted_all (noted w r) rs
+
+-- these records are legal from where a world stands
+abbrev pub MayNote : WorldView → List Rec → Type 0
+MayNote w rs = IsLegalFrom (setting_in w) (state_of w) rs
+
+-- the ranks hold the strips of a matrix in the slots of a line
+abbrev pub HoldsMatrix : State → ℕ → Layout → Matrix → Type 0
+HoldsMatrix st line d m = (rank group : ℕ) → NamesStrip d rank group → st.tiles rank (slot_at Data line group) ≡ Some (Words (strip_of d m rank group))

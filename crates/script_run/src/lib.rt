@@ -1,0 +1,11 @@
+//! The run of a script on the ranks, line by line: a matrix is fed strip by strip, a print takes every strip of its matrix and
+//! makes its text of them, and each line that makes records ends with its commit.
+#![tactic(auto)]
+
+mod feeding;
+mod layouts;
+mod lines;
+mod printing;
+mod running;
+
+pub use running::{Ran, run};
