@@ -1,5 +1,5 @@
 -- What the work answers, for the words.
-use Rattle.std.proofs.Common.{◌≡◌, ℕ, List, [], ◌∷◌, Option, Some, None, Result, Ok, Err, refl, sym, ap, subst, ◌∙◌, inl, inr}
+use Rattle.std.proofs.Common.{◌≡◌, ℕ, List, [], Option, Some, None, Result, Ok, Err, sym, ap, subst, ◌∙◌, inl, inr}
 use Rattle.std.specs.Prelude.{MatchOption, ⊤, ◌⊎◌, ◌≢◌, ◌≤◌}
 use Rattle.std.specs.Option.{option_map}
 use Rattle.io_edge.specs.Shelf.{Held}
@@ -9,7 +9,6 @@ use Rattle.scalapack_top.specs.declared.words.Places.{Places}
 use Rattle.scalapack_top.specs.Words.{word_at, places_of, script_name}
 use Rattle.scalapack_top.specs.Input.{◌>>=◌, Input, of_words, input_from, input_of}
 use Rattle.scalapack_top.specs.Writes.{Output}
-use Rattle.scalapack_top.specs.Status.{error_text}
 use Rattle.scalapack_top.specs.Causes.{FailsAs, IsFailure, IsCaused}
 use Rattle.scalapack_top.specs.Headline.{IsEnd, IsDone, IsAnswer, HasCause}
 

@@ -1,5 +1,6 @@
-pub mod FormRun
-pub mod WholeRun
+pub mod Codes
 pub mod Steps
-pub mod Forms
+pub mod Files
 pub mod Answered
+pub mod Named
+pub mod Runnable

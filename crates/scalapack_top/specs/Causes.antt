@@ -1,5 +1,5 @@
 -- The causes of the answers that come from outside, and what the steps of the work answer.
-use Rattle.std.specs.Prelude.{◌≡◌, ℕ, ◌≤◌, Option, Result, Ok, Err, MatchOption, ⊤, IfOk, IfErr, pos}
+use Rattle.std.specs.Prelude.{◌≡◌, ◌≢◌, ℕ, ◌≤◌, Option, Result, Ok, Err, MatchOption, ⊤, IfOk, IfErr, pos}
 use Rattle.std.specs.Option.{option_map}
 use Rattle.io_edge.specs.Causes.{Rose}
 use Rattle.io_edge.specs.Shelf.{Held}
@@ -41,7 +41,7 @@ IsFailure status.WriteFault = ⊥
 -- what a text that was read can fail with: it breaks a rule, and none of them is that it is too long; or memory ran out
 abbrev pub IsOfText : Status → Type 0
 IsOfText status.NoMemory = Unit {0}
-IsOfText (status.Refused file line code) = code ≡ pos 18
+IsOfText (status.Refused file line code) = code ≢ pos 12
 IsOfText status.Done = ⊥
 IsOfText status.Usage = ⊥
 IsOfText status.WriteFault = ⊥

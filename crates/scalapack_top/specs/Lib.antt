@@ -3,10 +3,7 @@ pub mod Status
 pub mod Input
 pub mod Causes
 pub mod Writes
-pub mod PrintedFrom
 pub mod Run
 pub mod Headline
-pub mod Parts
 pub mod Read
-pub mod Runnable
 pub mod Work

@@ -11,7 +11,7 @@ use Rattle.rank_machine.specs.Effect.{state_after}
 use Rattle.rank_machine.specs.Losses.{IsJournal}
 use Rattle.rank_machine.specs.JournalText.{journal_text}
 use Rattle.serial_model.specs.Serial.{serial_text}
-use Rattle.scalapack_top.specs.PrintedFrom.{ArePrinted}
+use Rattle.run_records.specs.PrintedFrom.{ArePrinted}
 
 -- every line that makes records has its commit that ends it
 abbrev pub AllEnd : Setting → List Rec → Type 0

@@ -10,12 +10,13 @@ ghost use Rattle.scalapack_top.specs.Headline.{IsAnswer, IsDone, HasCause};
 ghost use Rattle.scalapack_top.specs.Work.{error_of, output_of};
 
 use crate::input::read_input;
-use crate::run::{Ran, run};
+use crate::run::run;
 use crate::status::Status;
 use crate::words::{places_of, text_at};
 use crate::writes::write;
 use io_edge::{Shelf, Sink};
 use itoa::Buffer;
+use script_run::Ran;
 use std::alloc::{AllocError, Global};
 
 /// What the work came to, and its texts. `made` is the text on err where that isn't fixed.

@@ -1,15 +1,14 @@
 //! Reading the script and its matrix files.
-ghost use Rattle.std.specs.Prelude.{◌≡◌, IfOk};
-ghost use Rattle.script_text.specs.Form.{IsForm};
+ghost use Rattle.std.specs.Prelude.{IfOk};
+ghost use Rattle.script_text.specs.Accepted.{IsAccepted};
 ghost use Rattle.scalapack_top.specs.Input.{after_read, input_from};
 ghost use Rattle.scalapack_top.specs.Causes.{IsStep};
-ghost use Rattle.scalapack_top.specs.Read.{files_due, files_read, input_read, HasWord, IsReady};
+ghost use Rattle.scalapack_top.specs.Read.{file_due, line_due, after_line, files_read, input_read, IsPart, IsPut, IsAdded, NamesText, IsReady};
 
-use crate::form::form_of;
 use crate::reading::{read_matrix, read_script};
 use crate::status::Status;
 use io_edge::Shelf;
-use run_data::{Files, Script};
+use run_data::{Command, Files, Script};
 use std::alloc::Global;
 
 /// A script and the whole matrices of its files.
@@ -19,43 +18,72 @@ pub struct Prepared {
     pub files: Files,
 }
 
-// The file of the one matrix line.
-fn read_files<F: Shelf>(
+// Adds the matrix of a line, of m rows and n columns, from the file of a name.
+fn add_matrix<F: Shelf>(
     alloc: Global,
     shelf: &mut F,
     name: &str,
     line: u32,
-) -> Result<Files, Status>
-    ensures read { IsStep (λ f. f) (files_due name.now line) after_read (F.told shelf.old) (F.told shelf.new) (F.faults shelf.old) (F.faults shelf.new) (F.longs shelf.old) (F.longs shelf.new) result }
-    ensures word { IfOk result (λ f. HasWord f line) }
+    m: u32,
+    n: u32,
+    files: &mut Files,
+) -> Result<(), Status>
+    ensures read { IsStep (λ u. files.new) (file_due name.now line m n files.old) after_read (F.told shelf.old) (F.told shelf.new) (F.faults shelf.old) (F.faults shelf.new) (F.longs shelf.old) (F.longs shelf.new) result }
+    ensures put { IfOk result (λ u. IsPut m n line files.old files.new) }
 {
-    let matrix = match read_matrix(alloc, shelf, name, line, 1, 1) {
+    let matrix = match read_matrix(alloc, shelf, name, line, m, n) {
         Ok(matrix) => matrix,
         Err(e) => return Err(e),
     };
-    let mut files = Files::new(alloc);
     match files.put(line, matrix) {
-        Ok(()) => Ok(files),
+        Ok(()) => Ok(()),
         Err(_) => Err(Status::NoMemory),
     }
 }
 
-// The files of a script of the form.
+// Adds the file of a command's line, where it is a matrix line.
+fn add_file<F: Shelf>(
+    alloc: Global,
+    shelf: &mut F,
+    line: u32,
+    command: &Command,
+    files: &mut Files,
+) -> Result<(), Status>
+    requires { NamesText command.now }
+    ensures read { IsStep (λ u. files.new) (line_due line command.now files.old) (after_line command.now) (F.told shelf.old) (F.told shelf.new) (F.faults shelf.old) (F.faults shelf.new) (F.longs shelf.old) (F.longs shelf.new) result }
+    ensures added { IfOk result (λ u. IsAdded line command.now files.old files.new) }
+{
+    match command {
+        Command::Matrix { m, n, file, .. } => match str::from_utf8(file.bytes()) {
+            Ok(name) => add_matrix(alloc, shelf, name, line, *m, *n, files),
+            Err(_) => unreachable!(),
+        },
+        _ => Ok(()),
+    }
+}
+
+// The files of a script, in the order of its lines.
 fn files_of<F: Shelf>(alloc: Global, shelf: &mut F, script: &Script) -> Result<Files, Status>
-    requires { IsForm script.now }
-    ensures read { IsStep (λ f. f) (files_read script.now) after_read (F.told shelf.old) (F.told shelf.new) (F.faults shelf.old) (F.faults shelf.new) (F.longs shelf.old) (F.longs shelf.new) result }
+    requires { IsAccepted script.now }
+    ensures read { IsPart (λ f. f) (files_read script.now) (F.told shelf.old) (F.faults shelf.old) (F.faults shelf.new) (F.longs shelf.old) (F.longs shelf.new) result }
     ensures ready { IfOk result (λ f. IsReady script.now f) }
 {
-    let form = form_of(script);
-    match str::from_utf8(form.file.bytes()) {
-        Ok(name) => read_files(alloc, shelf, name, form.matrix),
-        Err(_) => unreachable!(),
+    let lines = script.as_slice();
+    let mut files = Files::new(alloc);
+    for i in 0..lines.len() {
+        if let Some(command) = &lines[i] {
+            match add_file(alloc, shelf, i as u32 + 1, command, &mut files) {
+                Ok(()) => {}
+                Err(e) => return Err(e),
+            }
+        }
     }
+    Ok(files)
 }
 
 /// Reads the script of a name and its files.
 pub fn read_input<F: Shelf>(alloc: Global, shelf: &mut F, name: &str) -> Result<Prepared, Status>
-    ensures read { IsStep input_read (input_from name.now) (λ held. after_read (after_read held)) (F.told shelf.old) (F.told shelf.new) (F.faults shelf.old) (F.faults shelf.new) (F.longs shelf.old) (F.longs shelf.new) result }
+    ensures read { IsPart input_read (input_from name.now) (F.told shelf.old) (F.faults shelf.old) (F.faults shelf.new) (F.longs shelf.old) (F.longs shelf.new) result }
     ensures ready { IfOk result (λ p. IsReady p.script p.files) }
 {
     let script = match read_script(alloc, shelf, name) {

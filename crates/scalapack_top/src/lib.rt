@@ -2,7 +2,6 @@
 #![tactic(auto)]
 
 mod call;
-mod form;
 mod input;
 mod reading;
 mod run;

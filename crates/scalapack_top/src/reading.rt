@@ -1,16 +1,17 @@
 //! Reading one file from the shelf: the script, or the matrix of a line.
+ghost use Rattle.scalapack_top.specs.declared.status.Status.{Status};
 ghost use Rattle.std.specs.Prelude.{◌≡◌, ◌≤◌, length, IfOk, IfErr};
 ghost use Rattle.io_edge.specs.Shelf.{read_answer};
-ghost use Rattle.script_text.specs.Form.{IsForm, IsOneWord};
+ghost use Rattle.script_text.specs.Accepted.{IsAccepted};
 ghost use Rattle.script_text.specs.Script.{script_of};
-ghost use Rattle.script_text.specs.MatrixFile.{matrix_of};
+ghost use Rattle.script_text.specs.MatrixFile.{matrix_of, HasResidues};
 ghost use Rattle.scalapack_top.specs.Input.{of_read, of_text, after_read, script_from, matrix_from};
 ghost use Rattle.scalapack_top.specs.Causes.{Comes, IsOfText, IsStep};
 
 use crate::status::Status;
 use io_edge::{Shelf, ShelfFault};
 use run_data::{Mat, Script};
-use script_text::{TextFault, parse_matrix, parse_script};
+use script_text::{Refused, TextFault, parse_matrix, parse_script};
 use std::alloc::Global;
 
 // The bytes of a file; its number is 0 for the script.
@@ -35,21 +36,28 @@ fn read_file<F: Shelf>(
     }
 }
 
+// The answer for a broken rule.
+fn refused(r: Refused) -> Status
+    ensures { result ≡ Status.Refused r.file r.line r.code }
+{
+    Status::Refused {
+        file: r.file,
+        line: r.line,
+        code: r.code,
+    }
+}
+
 // The script that bytes spell.
 fn script_in(alloc: Global, bytes: &[u8]) -> Result<Script, Status>
     requires { length bytes.now ≤ 16777216 }
     ensures due { Comes (λ s. s) result (of_text (script_of bytes.now)) }
     ensures fault { IfErr result IsOfText }
-    ensures form { IfOk result IsForm }
+    ensures accepted { IfOk result IsAccepted }
 {
     match parse_script(alloc, bytes) {
         Ok(script) => Ok(script),
         Err(TextFault::NoMemory) => Err(Status::NoMemory),
-        Err(TextFault::Refused(r)) => Err(Status::Refused {
-            file: r.file,
-            line: r.line,
-            code: r.code,
-        }),
+        Err(TextFault::Refused(r)) => Err(refused(r)),
     }
 }
 
@@ -58,23 +66,19 @@ fn matrix_in(alloc: Global, bytes: &[u8], file: u32, m: u32, n: u32) -> Result<M
     requires { length bytes.now ≤ 16777216 }
     ensures due { Comes (λ a. a) result (of_text (matrix_of bytes.now file m n)) }
     ensures fault { IfErr result IsOfText }
-    ensures word { IfOk result IsOneWord }
+    ensures residues { IfOk result (HasResidues m n) }
 {
     match parse_matrix(alloc, bytes, file, m, n) {
         Ok(matrix) => Ok(matrix),
         Err(TextFault::NoMemory) => Err(Status::NoMemory),
-        Err(TextFault::Refused(r)) => Err(Status::Refused {
-            file: r.file,
-            line: r.line,
-            code: r.code,
-        }),
+        Err(TextFault::Refused(r)) => Err(refused(r)),
     }
 }
 
 /// Reads the script of a name.
 pub fn read_script<F: Shelf>(alloc: Global, shelf: &mut F, name: &str) -> Result<Script, Status>
     ensures read { IsStep (λ s. s) (script_from name.now) after_read (F.told shelf.old) (F.told shelf.new) (F.faults shelf.old) (F.faults shelf.new) (F.longs shelf.old) (F.longs shelf.new) result }
-    ensures form { IfOk result IsForm }
+    ensures accepted { IfOk result IsAccepted }
 {
     match read_file(alloc, shelf, name, 0) {
         Ok(bytes) => script_in(alloc, &bytes),
@@ -92,7 +96,7 @@ pub fn read_matrix<F: Shelf>(
     n: u32,
 ) -> Result<Mat, Status>
     ensures read { IsStep (λ a. a) (matrix_from name.now line m n) after_read (F.told shelf.old) (F.told shelf.new) (F.faults shelf.old) (F.faults shelf.new) (F.longs shelf.old) (F.longs shelf.new) result }
-    ensures word { IfOk result IsOneWord }
+    ensures residues { IfOk result (HasResidues m n) }
 {
     match read_file(alloc, shelf, name, line) {
         Ok(bytes) => matrix_in(alloc, &bytes, line, m, n),

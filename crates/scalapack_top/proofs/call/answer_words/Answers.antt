@@ -1,6 +1,5 @@
-use Rattle.std.proofs.Common.{◌≡◌, Some, sym, subst}
+use Rattle.std.proofs.Common.{◌≡◌, Some, sym}
 use Rattle.scalapack_top.specs.Words.{texts, places_of}
-use Rattle.scalapack_top.specs.Headline.{IsDone}
 use Rattle.scalapack_top.proofs.Answered.{ran, silent, ended, cause}
 use Rattle.scalapack_top.proofs.call.answer_words.Goals as goal
 

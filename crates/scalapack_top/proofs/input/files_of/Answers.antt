@@ -1,5 +1,39 @@
-use Rattle.scalapack_top.proofs.Forms.{ready_files}
+use Rattle.std.proofs.Common.{◌≡◌, get_or, sym, subst, refl}
+use Rattle.script_text.specs.Accepted.{IsAccepted}
+use Rattle.scalapack_top.specs.Read.{IsReady}
+use Rattle.scalapack_top.proofs.Files.{names_text, none_read, skipped, read_more, read_fails, all_read, all_ready, part_of}
 use Rattle.scalapack_top.proofs.input.files_of.Goals as goal
+use Rattle.scalapack_top.proofs.input.files_of.Goals.{in-Some+in-Ok, in_default}
+
+pub loop-i-init : goal.loop-i-init
+loop-i-init g c = none_read c.as_slice-lines.result.now _ _ _ c.new-files.result c.new-files.ensures
+
+pub add_file-requires : goal.add_file-requires
+add_file-requires g c =
+    names_text c.as_slice-lines.result.now (subst IsAccepted (sym c.as_slice-lines.ensures) c.requires) c.loop-i.i c.in-Some.command c.loop-i-test.true
+    (subst (λ o. o ≡ get_or c.as_slice-lines.result.now c.loop-i.i o) c.in-Some.is c.index-lines-i.is)
+
+pub loop-i-preserved : goal.loop-i-preserved
+loop-i-preserved g c =
+    elim c.match-lines-i.branch [
+      | in-Some+in-Ok w ↦
+          rw (w.shelf-is, w.files-is) (read_more c.as_slice-lines.result.now c.loop-i.i _ _ _ _ _ _ c.loop-i.files c.loop-i.invariant c.loop-i-test.true w.in-Some.command
+          (subst (λ o. o ≡ get_or c.as_slice-lines.result.now c.loop-i.i o) w.in-Some.is c.index-lines-i.is) _ refl w.in-Ok.field-0 w.add_file.new.files _ _ _ w.in-Ok.ensures.read w.in-Ok.ensures.added)
+      | in_default w ↦
+          rw (w.shelf-is, w.files-is) (skipped c.as_slice-lines.result.now c.loop-i.i _ _ _ _ _ _ c.loop-i.files c.loop-i.invariant c.loop-i-test.true
+          (subst (λ o. o ≡ get_or c.as_slice-lines.result.now c.loop-i.i o) w.in_default.is c.index-lines-i.is))
+    ]
+
+pub returns-in-Err-clause-read : goal.returns-in-Err-clause-read
+returns-in-Err-clause-read g c =
+    part_of _ c.args.script.now _ _ _ _ _ _ c.as_slice-lines.ensures (read_fails c.as_slice-lines.result.now c.loop-i.i _ _ _ _ _ _ c.loop-i.files c.loop-i.invariant c.loop-i-test.true c.in-Some.command
+    (subst (λ o. o ≡ get_or c.as_slice-lines.result.now c.loop-i.i o) c.in-Some.is c.index-lines-i.is) _ refl c.add_file.new.files _ _ _ c.in-Err.e c.in-Err.ensures.read)
+
+pub returns-clause-read : goal.returns-clause-read
+returns-clause-read g c =
+    part_of _ c.args.script.now _ _ _ _ _ _ c.as_slice-lines.ensures (all_read c.as_slice-lines.result.now c.loop-i.i _ _ _ _ _ _ c.loop-i.files c.loop-i.invariant c.loop-i-test.false)
 
 pub returns-clause-ready : goal.returns-clause-ready
-returns-clause-ready g c = ready_files c.args.script.now c.requires _ _ _ _ c.form_of-form.ensures c.read_files.result c.read_files.ensures.word
+returns-clause-ready g c =
+    subst (λ s. IsReady s c.loop-i.files) c.as_slice-lines.ensures
+    (all_ready c.as_slice-lines.result.now c.loop-i.i _ _ _ _ _ _ c.loop-i.files c.loop-i.invariant c.loop-i-test.false (subst IsAccepted (sym c.as_slice-lines.ensures) c.requires))

@@ -1,14 +1,15 @@
-use Rattle.std.proofs.Common.{◌≡◌, ap, ◌∙◌}
-use Rattle.serial_model.specs.Text.{matrix_text}
-use Rattle.scalapack_top.proofs.Forms.{runnable}
-use Rattle.scalapack_top.proofs.WholeRun.{whole_run}
+use Rattle.std.proofs.Common.{Result, Ok, Err}
+use Rattle.std.specs.Prelude.{IfOk}
+use Rattle.scalapack_top.proofs.Runnable.{can_run, whole_run}
 use Rattle.scalapack_top.proofs.run.run.Goals as goal
 
+pub run-requires : goal.run-requires
+run-requires c = can_run c.args.script.now c.args.files.now c.requires
+
+both_ok : {T E : Type 0} (r : Result T E) (P Q R : T → Type 0) → IfOk r P → IfOk r Q → ((x : T) → P x → Q x → R x) → IfOk r R
+both_ok (Ok x) P Q R p q f = f x p q
+both_ok (Err e) P Q R p q f = tt
+
 pub returns : goal.returns
-returns c =
-    let form = c.form_of-form in
-    let m = c.matrix_of-m in
-    whole_run c.args.script.now c.args.files.now form.result.matrix form.result.print form.result.name.now form.result.file.now m.result.now
-    (runnable c.args.script.now c.args.files.now c.requires form.result.matrix form.result.print form.result.name.now form.result.file.now m.result.now form.ensures m.ensures)
-    c.in_ok-out.out.items c.in_ok-journal.journal.items
-    (c.in_ok-out.ensures ∙ ap (λ bs. matrix_text bs m.result.now) (c.text_of.ensures ∙ c.bytes-3.ensures)) c.in_ok-journal.ensures
+returns c = both_ok c.run.result _ _ _ c.run.ensures.out c.run.ensures.journal
+    (λ x out journal. whole_run c.args.script.now c.args.files.now c.requires x.out.items x.journal.items out journal)

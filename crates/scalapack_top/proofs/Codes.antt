@@ -1,0 +1,163 @@
+-- No rule of a text has code 12.
+use Rattle.std.proofs.Common.{◌≡◌, ℕ, suc, Bool, true, false, cond, ◌&&◌, List, [], ◌∷◌, ◌++◌, length, Option, Some, None, Result, Ok, Err, refl, sym, ap, subst, ◌∙◌}
+use Rattle.std.specs.Prelude.{ℤ, pos, negsuc, not, ◌==◌, ◌≢◌, nat_lt, nat_le}
+use Rattle.std.specs.Option.{option_or}
+use Rattle.std.proofs.lemmas.Bool.{and_parts}
+use Rattle.run_data.specs.Matrix.{Matrix, tabulate}
+use Rattle.run_data.specs.Script.{Numbered, commands_of}
+use Rattle.run_data.specs.declared.command.Command.{Command}
+use Rattle.run_data.specs.declared.command.Command.TheVariants as c
+use Rattle.script_text.specs.declared.fault.Refused.{Refused}
+use Rattle.script_text.specs.declared.kinds.Kind.{Kind}
+use Rattle.script_text.specs.declared.kinds.Kind.TheVariants.{NewName, GridName, MatrixName, ListName, ThingName, Number, FileName, Letter}
+use Rattle.script_text.specs.declared.kinds.CommandWord.{CommandWord}
+use Rattle.script_text.specs.declared.rules.TheConstants.{MAX_LINES}
+use Rattle.script_text.specs.declared.bounds.TheConstants.{MAX_RECORDS}
+use Rattle.script_text.specs.Lines.{has_items}
+use Rattle.script_text.specs.Kinds.{command_word, kinds_of, has_count, is_built}
+use Rattle.script_text.specs.Bounds.{bound}
+use Rattle.script_text.specs.Rules.{first_code, word_rules, words_code, rules}
+use Rattle.script_text.specs.Commands.{command_of}
+use Rattle.script_text.specs.Script.{refused, command_code, form_code_of, form_code, rule_code, line_code, answer_by, line_answer, and_then, script_after, word_lines, bounded, script_of}
+use Rattle.script_text.specs.MatrixFile.{row_rules, by_code, too_few, refused_after, rows_of, number_in, matrix_or, matrix_of}
+
+-- a code, if there is one, is not 12
+abbrev is_other : Option ℤ → Bool
+is_other None = true
+is_other (Some (pos n)) = not (n == 12)
+is_other (Some (negsuc n)) = true
+
+abbrev are_others : List (ℤ × Bool) → Bool
+are_others [] = true
+are_others (rule ∷ rest) = is_other (Some rule.0) && are_others rest
+
+not_twelve : (code : ℤ) → is_other (Some code) ≡ true → code ≢ pos 12
+not_twelve code h = λ (e : code ≡ pos 12). let q : false ≡ true = sym (ap (λ (x : ℤ). is_other (Some x)) e) ∙ h in cc
+
+-- ---- the first of several codes
+first_other : (list : List (ℤ × Bool)) → are_others list ≡ true → is_other (first_code list) ≡ true
+first_other [] h = refl
+first_other (rule ∷ rest) h =
+    let parts = and_parts (is_other (Some rule.0)) (are_others rest) h in
+    by_test rule.1 parts.0 (first_other rest parts.1)
+  where
+    by_test : (b : Bool) → is_other (Some rule.0) ≡ true → is_other (first_code rest) ≡ true → is_other (cond b (first_code rest) (Some rule.0)) ≡ true
+    by_test true a b = b
+    by_test false a b = a
+
+or_other : (a b : Option ℤ) → is_other a ≡ true → is_other b ≡ true → is_other (option_or a b) ≡ true
+or_other None b h k = k
+or_other (Some x) b h k = h
+
+-- ---- a line of a script
+word_other : (cs : List Numbered) (line : ℕ) (kind : Kind) (word : List ℕ) → are_others (word_rules cs line kind word) ≡ true
+word_other cs line NewName word = refl
+word_other cs line GridName word = refl
+word_other cs line MatrixName word = refl
+word_other cs line ListName word = refl
+word_other cs line ThingName word = refl
+word_other cs line Number word = refl
+word_other cs line FileName word = refl
+word_other cs line Letter word = refl
+
+words_other : (cs : List Numbered) (line : ℕ) (kinds : List Kind) (words : List (List ℕ)) → is_other (words_code cs line kinds words) ≡ true
+words_other cs line [] words = refl
+words_other cs line (kind ∷ kinds) [] = refl
+words_other cs line (kind ∷ kinds) (word ∷ words) = or_other (first_code (word_rules cs line kind word)) _ (first_other (word_rules cs line kind word) (word_other cs line kind word)) (words_other cs line kinds words)
+
+rules_other : (cs : List Numbered) (line : ℕ) (command : Command) → are_others (rules cs line command) ≡ true
+rules_other cs line (c.Grid name p q f) = refl
+rules_other cs line (c.Matrix name grid m n mb nb rsrc csrc file) = refl
+rules_other cs line (c.Print name) = refl
+rules_other cs line command = refl
+
+command_other : (script : List (Option Command)) (o : Option CommandWord) (others : List (List ℕ)) → is_other (command_code script o others) ≡ true
+command_other script None others = refl
+command_other script (Some w) others =
+    or_other (first_code ((pos 2, has_count w (length others)) ∷ (pos 18, is_built w) ∷ [])) _ (first_other ((pos 2, has_count w (length others)) ∷ (pos 18, is_built w) ∷ []) refl)
+    (words_other (commands_of script) (suc (length script)) (kinds_of w) others)
+
+form_other : (script : List (Option Command)) (words : List (List ℕ)) → is_other (form_code script words) ≡ true
+unfolding form_code
+form_other script words = or_other (first_code ((pos 11, nat_lt (length script) MAX_LINES) ∷ [])) _ (first_other ((pos 11, nat_lt (length script) MAX_LINES) ∷ []) refl) (of_words words)
+  where
+    of_words : (words : List (List ℕ)) → is_other (form_code_of script words) ≡ true
+    of_words [] = refl
+    of_words (first ∷ others) = command_other script (command_word first) others
+
+rule_other : (script : List (Option Command)) (command : Option Command) → is_other (rule_code script command) ≡ true
+unfolding rule_code
+rule_other script None = refl
+rule_other script (Some command) = first_other (rules (commands_of script) (suc (length script)) command) (rules_other (commands_of script) (suc (length script)) command)
+
+line_other : (script : List (Option Command)) (words : List (List ℕ)) → is_other (line_code script words) ≡ true
+unfolding line_code
+line_other script words = or_other (form_code script words) _ (form_other script words) (rule_other script (command_of words))
+
+-- ---- a script
+line_refused : (script : List (Option Command)) (words : List (List ℕ)) (r : Refused) → line_answer script words ≡ Err r → is_other (Some r.code) ≡ true
+unfolding line_answer
+line_refused script words r e = by_code (line_code script words) (line_other script words) e
+  where
+    by_code : (o : Option ℤ) → is_other o ≡ true → answer_by script words o ≡ Err r → is_other (Some r.code) ≡ true
+    by_code None h e = absurd cc
+    by_code (Some code) h e = let q : refused (suc (length script)) code ≡ r = cc in subst (λ (x : Refused). is_other (Some x.code) ≡ true) q h
+
+-- a line, and then the rest
+then_refused : (a : Result (Option Command) Refused) (next : Option Command → Result (List (Option Command)) Refused) (r : Refused) → ((x : Refused) → a ≡ Err x → is_other (Some x.code) ≡ true)
+    → ((command : Option Command) → next command ≡ Err r → is_other (Some r.code) ≡ true) → and_then a next ≡ Err r → is_other (Some r.code) ≡ true
+then_refused (Ok command) next r h k e = k command e
+then_refused (Err x) next r h k e = let q : x ≡ r = cc in subst (λ (y : Refused). is_other (Some y.code) ≡ true) q (h x refl)
+
+lines_refused : (script : List (Option Command)) (lines : List (List (List ℕ))) (r : Refused) → script_after script lines ≡ Err r → is_other (Some r.code) ≡ true
+unfolding script_after
+lines_refused script [] r e = absurd cc
+lines_refused script (words ∷ lines) r e =
+    then_refused (line_answer script words) (λ command. script_after (script ++ command ∷ []) lines) r (λ x o. line_refused script words x o) (λ command o. lines_refused (script ++ command ∷ []) lines r o) e
+
+bound_refused : (script : List (Option Command)) (r : Refused) → bounded script ≡ Err r → is_other (Some r.code) ≡ true
+unfolding bounded
+bound_refused script r e = by_test (nat_le (bound (commands_of script)) MAX_RECORDS) e
+  where
+    by_test : (b : Bool) → cond b (Ok script) (Err (refused 0 (pos 7))) ≡ Err r → is_other (Some r.code) ≡ true
+    by_test true e = absurd cc
+    by_test false e = let q : refused 0 (pos 7) ≡ r = cc in subst (λ (x : Refused). is_other (Some x.code) ≡ true) q refl
+
+script_refused : (bytes : List ℕ) (r : Refused) → script_of bytes ≡ Err r → is_other (Some r.code) ≡ true
+unfolding script_of
+script_refused bytes r e = by_lines (script_after [] (word_lines bytes)) refl e
+  where
+    by_lines : (a : Result (List (Option Command)) Refused) → script_after [] (word_lines bytes) ≡ a → and_then a bounded ≡ Err r → is_other (Some r.code) ≡ true
+    by_lines (Ok script) o e = bound_refused script r e
+    by_lines (Err x) o e = let q : x ≡ r = cc in subst (λ (y : Refused). is_other (Some y.code) ≡ true) q (lines_refused [] (word_lines bytes) x o)
+
+pub code_of_script : (bytes : List ℕ) (r : Refused) → script_of bytes ≡ Err r → r.code ≢ pos 12
+code_of_script bytes r e = not_twelve r.code (script_refused bytes r e)
+
+-- ---- a matrix file
+abbrev is_other_refusal : Option Refused → Bool
+is_other_refusal None = true
+is_other_refusal (Some r) = is_other (Some r.code)
+
+test_other : (b : Bool) (x y : Option Refused) → is_other_refusal x ≡ true → is_other_refusal y ≡ true → is_other_refusal (cond b x y) ≡ true
+test_other true x y h k = h
+test_other false x y h k = k
+
+row_other : (file line : ℕ) (o : Option ℤ) (rest : Option Refused) → is_other o ≡ true → is_other_refusal rest ≡ true → is_other_refusal (by_code file line o rest) ≡ true
+row_other file line None rest h k = k
+row_other file line (Some code) rest h k = h
+
+rows_other : (file m n i line : ℕ) (lines : List (List (List ℕ))) → is_other_refusal (refused_after file m n i line lines) ≡ true
+rows_other file m n i line [] = test_other (nat_lt i m) (Some (too_few file)) None refl refl
+rows_other file m n i line (words ∷ lines) =
+    test_other (has_items words) (by_code file line (first_code (row_rules m n i words)) (refused_after file m n (suc i) (suc line) lines)) (refused_after file m n i (suc line) lines)
+    (row_other file line (first_code (row_rules m n i words)) (refused_after file m n (suc i) (suc line) lines) (first_other (row_rules m n i words) refl) (rows_other file m n (suc i) (suc line) lines))
+    (rows_other file m n i (suc line) lines)
+
+matrix_refused : (o : Option Refused) (a : Matrix) (r : Refused) → is_other_refusal o ≡ true → matrix_or o a ≡ Err r → is_other (Some r.code) ≡ true
+matrix_refused None a r h e = absurd cc
+matrix_refused (Some x) a r h e = let q : x ≡ r = cc in subst (λ (y : Refused). is_other (Some y.code) ≡ true) q h
+
+pub code_of_matrix : (bytes : List ℕ) (file m n : ℕ) (r : Refused) → matrix_of bytes file m n ≡ Err r → r.code ≢ pos 12
+unfolding matrix_of
+code_of_matrix bytes file m n r e = not_twelve r.code (matrix_refused (refused_after file m n 0 1 (word_lines bytes)) (tabulate m n (number_in (rows_of bytes))) r (rows_other file m n 0 1 (word_lines bytes)) e)
