@@ -1,5 +1,5 @@
 -- The members of a scope, for positions: how many there are at most, and that they differ.
-use Rattle.std.proofs.Common.{◌≡◌, ◌≢◌, ℕ, ◌+◌, ◌*◌, ◌<◌, ◌≤◌, ◌==◌, IsTrue, arith}
+use Rattle.std.proofs.Common.{◌≡◌, ℕ, ◌+◌, ◌*◌, ◌<◌, ◌≤◌, ◌==◌, IsTrue, arith}
 use Rattle.blacs_grid.specs.declared.Grid.{Grid}
 use Rattle.blacs_grid.specs.declared.Scope.{Scope}
 use Rattle.blacs_grid.specs.declared.Scope.TheVariants.{Row, Column, All}

@@ -1,5 +1,5 @@
 -- What a combine and a broadcast of its result do.
-use Rattle.std.proofs.Common.{◌≡◌, ◌≢◌, ℕ, ◌<◌, List, length, slice_index, refl, sym, ◌∙◌, ap, inl, inr, if◌then◌else◌, Bool, true, false, MatchBool}
+use Rattle.std.proofs.Common.{◌≡◌, ◌≢◌, ℕ, ◌<◌, List, refl, sym, ◌∙◌, ap, inl, inr, if◌then◌else◌, Bool, true, false, MatchBool}
 use Rattle.std.proofs.lemmas.Bool.Decides.{eqb_tells}
 use Rattle.rank_run.specs.declared.round.Event.{Event}
 use Rattle.rank_run.specs.Memory.{Memory, ReadsBack}

@@ -1,6 +1,6 @@
 use Rattle.blacs_comm.proofs.Scopes.{members_differ}
 use Rattle.blacs_grid.specs.Places.{member, members}
-use Rattle.std.proofs.Common.{◌≡◌, ◌∙◌, ◌++◌, ◌-◌, length, ◌==◌, if◌then◌else◌, ap, sym, ℕ, arith, ◌+◌}
+use Rattle.std.proofs.Common.{◌≡◌, ◌∙◌, ◌++◌, ◌-◌, ◌==◌, if◌then◌else◌, ap, sym, ℕ, arith, ◌+◌}
 use Rattle.rank_run.proofs.Ranks.{if_same, if_other}
 use Rattle.rank_run.specs.Rounds.{steps}
 use Rattle.blacs_comm.proofs.Counts.{steps-append, broadcast_steps}

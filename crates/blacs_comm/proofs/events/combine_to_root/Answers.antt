@@ -1,6 +1,6 @@
 use Rattle.blacs_comm.proofs.Scopes.{members_differ}
 use Rattle.blacs_grid.specs.Places.{member, members}
-use Rattle.std.proofs.Common.{◌≡◌, ◌-◌, ◌++◌, append-nil, ap, sym, ◌∙◌, ℕ, length, refl, arith, ◌+◌}
+use Rattle.std.proofs.Common.{◌≡◌, ◌-◌, ◌++◌, append-nil, ap, sym, ◌∙◌, ℕ, refl, arith, ◌+◌}
 use Rattle.rank_run.specs.Rounds.{steps}
 use Rattle.blacs_comm.proofs.Counts.{steps-append, combine_steps}
 use Rattle.blacs_comm.specs.Moves.{joined_at, combine_moves}

@@ -1,5 +1,5 @@
 use Rattle.blacs_grid.specs.Places.{member, members}
-use Rattle.std.proofs.Common.{◌≡◌, ◌≤◌, ◌++◌, length}
+use Rattle.std.proofs.Common.{◌≡◌, ◌≤◌, ◌++◌}
 use Rattle.blacs_comm.specs.Moves.{joined_at, combine_moves}
 use Rattle.blacs_comm.specs.Positions.{rank_at}
 use Rattle.blacs_comm.proofs.events.combine_to_root.Given as goal
