@@ -258,7 +258,8 @@ IsLegalRec-from_test s known st (r.Kernel rank kernel) all h =
     let e = and_parts _ _ d.1 in
     let f = and_parts _ _ e.1 in
     let g = and_parts _ _ f.1 in
-    record { live = a.0; held = b.0; writable = c.0; apart = d.0; shaped = e.0; divisors = f.0; placed = g.0; factor = factor-from s known st rank (factor_of kernel) all g.1 }
+    let i = and_parts _ _ g.1 in
+    record { live = a.0; held = b.0; writable = c.0; apart = d.0; shaped = e.0; divisors = f.0; placed = g.0; strips = i.0; factor = factor-from s known st rank (factor_of kernel) all i.1 }
 IsLegalRec-from_test s known st (r.Send from to x) all h =
     let a = and_parts _ _ h in
     let b = and_parts _ _ a.1 in

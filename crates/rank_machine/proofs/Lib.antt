@@ -17,3 +17,4 @@ mod Solved
 mod SpoiledCommits
 mod SpoiledKernels
 mod SpoiledSteps
+mod SpoiledPanels

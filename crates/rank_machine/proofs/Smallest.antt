@@ -42,6 +42,24 @@ legal_smallest = legal_by_quick script_smallest files_smallest [] journal_smalle
 due_smallest : AreDue setting_smallest false journal_smallest
 due_smallest = refl
 
+-- a loss past the last record doesn't fall
+abbrev pub script_not_reached : List Numbered
+script_not_reached = commands_of (
+    Some (c.Grid (103 ∷ []) 1 1 0) ∷
+    Some (c.Matrix (65 ∷ []) (103 ∷ []) 1 1 1 1 0 0 (97 ∷ 46 ∷ 116 ∷ 120 ∷ 116 ∷ [])) ∷
+    Some (c.Print (65 ∷ [])) ∷
+    Some (c.Lose 4 0) ∷ [])
+
+abbrev pub setting_not_reached : Setting
+setting_not_reached = setting_with script_not_reached files_smallest
+
+legal_not_reached : IsLegal setting_not_reached journal_smallest
+unfolding entry tabulate patched sum_to substituted solution quick_inverse inverse_walk
+legal_not_reached = legal_by_quick script_not_reached files_smallest [] journal_smallest tt refl
+
+due_not_reached : AreDue setting_not_reached false journal_smallest
+due_not_reached = refl
+
 abbrev pub script_fed_again : List Numbered
 script_fed_again = commands_of (
     Some (c.Grid (103 ∷ []) 1 1 0) ∷

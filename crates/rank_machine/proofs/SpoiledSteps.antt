@@ -481,3 +481,26 @@ journal_late =
 
 not_late : AreDue setting_late false journal_late → ⊥
 not_late h = let e : false ≡ true = ap (λ j. is_loss_at j 10) h in cc
+
+-- a search of the diagonal on a rank that lacks a strip of the matrix
+abbrev pub script_strip_missing : List Numbered
+script_strip_missing = commands_of (
+    Some (c.Grid (103 ∷ []) 1 1 0) ∷
+    Some (c.Matrix (65 ∷ []) (103 ∷ []) 1 2 1 1 0 0 (97 ∷ 46 ∷ 116 ∷ 120 ∷ 116 ∷ [])) ∷
+    Some (c.Print (65 ∷ [])) ∷ [])
+
+abbrev pub files_strip_missing : ℕ → Matrix
+files_strip_missing = λ line. by_line 2 line (record { rows = 1; columns = ((5 ∷ []) ∷ (7 ∷ []) ∷ []) }) (no_matrix)
+
+abbrev pub setting_strip_missing : Setting
+setting_strip_missing = setting_with script_strip_missing files_strip_missing
+
+abbrev pub journal_strip_missing : List Rec → List Rec
+journal_strip_missing rest =
+    r.Feed 0 (d 2 0) ∷
+    r.Kernel 0 (k.Diag (w 0 0) (piece.Whole (d 2 0)) 1) ∷
+    rest
+
+not_strip_missing : (rest : List Rec) → IsLegal setting_strip_missing (journal_strip_missing rest) → ⊥
+unfolding entry tabulate patched sum_to substituted solution quick_inverse inverse_walk
+not_strip_missing rest h = let q : IsLegal (quick_setting script_strip_missing files_strip_missing) (journal_strip_missing rest) = as_quick script_strip_missing files_strip_missing (journal_strip_missing rest) h in let e : false ≡ true = q.1.0.strips in cc

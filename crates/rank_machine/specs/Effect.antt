@@ -20,7 +20,7 @@ use Rattle.rank_machine.specs.declared.kernel.Kernel.TheVariants as k
 use Rattle.rank_machine.specs.declared.mark.Mark.{Mark}
 use Rattle.rank_machine.specs.declared.record.Rec.{Rec}
 use Rattle.rank_machine.specs.declared.record.Rec.TheVariants as r
-use Rattle.rank_machine.specs.Setting.{Job, Setting, some_job, layout, is_matrix, factored, group_count, strip_of, global_row, global_col}
+use Rattle.rank_machine.specs.Setting.{Job, Layout, Setting, some_job, layout, is_matrix, factored, group_count, strip_of, global_row, global_col}
 use Rattle.rank_machine.specs.State.{same_kind, State, opened, at_rank, at_slot, at_link, base}
 
 -- the number that means none
@@ -129,6 +129,10 @@ first_row s rank mem x j above =
     let d = layout s (slot_of x).id in
     least_of (at.r1 - at.r0) (λ i. let row = global_row d rank (at.r0 + i) + 1 in number_if (not (entry m (at.r0 + i) (at.c0 + j) == 0) && nat_lt above row) row)
 
+-- how many entries the diagonal of a matrix has
+abbrev pub diagonal : Layout → ℕ
+diagonal d = min d.desc.m d.desc.n
+
 -- whether the diagonal entry of a row and column, from 0, lies on a rank and is zero there
 abbrev pub is_zero_here : Setting → ℕ → Memory → ℕ → ℕ → Bool
 is_zero_here s rank mem line i =
@@ -152,7 +156,7 @@ made_by s rank mem (k.Lower to block unit) = Words (with_solved_lower s.modulus 
 made_by s rank mem (k.Upper to block unit) = Words (with_solved_upper s.modulus s.inverse (matrix_in mem to) (area_in mem to) (matrix_in mem block) (area_in mem block) unit)
 made_by s rank mem (k.Swap to i j) = Words (with_rows_swapped (words_of (mem to)) i j)
 made_by s rank mem (k.First to from j above) = Index (first_row s rank mem from j above ∷ [])
-made_by s rank mem (k.Diag to from n) = Index (least_of n (λ i. number_if (is_zero_here s rank mem (slot_of from).id i) (i + 1)) ∷ [])
+made_by s rank mem (k.Diag to from n) = Index (least_of (min n (diagonal (layout s (slot_of from).id))) (λ i. number_if (is_zero_here s rank mem (slot_of from).id i) (i + 1)) ∷ [])
 made_by s rank mem (k.Least to from) = Index (min (number_of (mem to)) (number_of (mem (slot_of from))) ∷ [])
 made_by s rank mem (k.Elim to j above row) =
     Words (with_eliminated s.modulus s.inverse (words_of (mem to)) (λ i. nat_lt above (global_row (layout s to.id) rank i)) j (matrix_in mem row) (area_in mem row))

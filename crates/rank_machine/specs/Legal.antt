@@ -24,7 +24,7 @@ use Rattle.rank_machine.specs.declared.record.Rec.TheVariants as r
 use Rattle.rank_machine.specs.Setting.{Path, anywhere, forwards, backwards, members, Setting, all_below, some_below, ranks, grid_of_rank, job, layout, is_matrix, blocks, group_count}
 use Rattle.rank_machine.specs.State.{kind_number, same_kind, same_slot, State, opened}
 use Rattle.rank_machine.specs.Effect.{words_of, numbers_of, is_words, is_index, slot_of, is_whole, Memory, matrix_in, area_in, piece_in, target, current, after}
-use Rattle.rank_machine.specs.CodeLaw.{CodeLaw}
+use Rattle.rank_machine.specs.CodeLaw.{slot_at, CodeLaw}
 use Rattle.rank_machine.specs.Marks.{follows}
 
 -- ---- slots and pieces
@@ -153,6 +153,13 @@ is_placed s rank (k.Diag to from n) = is_whole from && in_matrix s rank (slot_of
 is_placed s rank (k.Elim to j above row) = in_matrix s rank to
 is_placed s rank _ = true
 
+-- `diag` reads every strip of the matrix that a data rank holds: they are all there, with words, and it writes none of them
+abbrev pub has_strips : Setting → ℕ → Memory → Kernel → Bool
+has_strips s rank mem (k.Diag to from n) =
+    let d = layout s (slot_of from).id in
+    not (is_data_rank d.grid rank) || all_below (group_count d) (λ group. is_words (mem (slot_at Data (slot_of from).id group)) && not (same_slot to (slot_at Data (slot_of from).id group)))
+has_strips s rank mem _ = true
+
 -- ---- factors
 abbrev pub factor_of : Kernel → Option ℕ
 factor_of (k.Scale to a) = Some a
@@ -249,6 +256,7 @@ pub record IsRun (s : Setting) (st : State) (rank : ℕ) (kernel : Kernel) : Typ
   pub shaped : IsTrue (is_shaped (st.tiles rank) kernel)
   pub divisors : IsTrue (has_divisors (st.tiles rank) kernel)
   pub placed : IsTrue (is_placed s rank kernel)
+  pub strips : IsTrue (has_strips s rank (st.tiles rank) kernel)
   pub factor : FactorOf s st rank (factor_of kernel)
 
 pub record IsSend (s : Setting) (st : State) (from to : ℕ) (x : Piece) : Type 0 where

@@ -10,7 +10,7 @@ use Rattle.rank_machine.specs.State.{same_kind, State, opened}
 use Rattle.rank_machine.specs.Effect.{numbers_of, is_index, slot_of, target, has_ended, current, is_live_matrix, is_live_list, after}
 use Rattle.rank_machine.specs.CodeLaw.{slot_at, has_low, has_open, is_open_group, data_word, code_word, symbol, weighted_sum, is_multiplier, is_open_column, is_strip_of, pivots_of}
 use Rattle.rank_machine.specs.Marks.{same_bool, has_numbers, follows}
-use Rattle.rank_machine.specs.Legal.{may_write, may_change, holds, reads, makes, is_apart, is_held, is_shaped, has_divisors, is_placed, factor_of, is_among, is_plain_factor, lost_columns, may_take, some_lost, is_path, fits}
+use Rattle.rank_machine.specs.Legal.{may_write, may_change, holds, reads, makes, is_apart, is_held, is_shaped, has_divisors, is_placed, has_strips, factor_of, is_among, is_plain_factor, lost_columns, may_take, some_lost, is_path, fits}
 
 -- a test of each place of a group of a process row
 abbrev pub each_place : Layout → ℕ → (ℕ → ℕ → Bool) → Bool
@@ -102,7 +102,7 @@ rec_test s known st (r.Feed rank slot) =
     && (is_matrix s slot.id && (is_data_rank (layout s slot.id).grid rank && (nat_lt slot.group (group_count (layout s slot.id)) && may_write st rank slot)))))
 rec_test s known st (r.Kernel rank kernel) =
     st.live rank && (is_held (st.tiles rank) kernel && ((if makes kernel then may_write st rank (slot_of (target kernel)) else may_change st rank (slot_of (target kernel)))
-    && (is_apart (slot_of (target kernel)) (reads kernel) && (is_shaped (st.tiles rank) kernel && (has_divisors (st.tiles rank) kernel && (is_placed s rank kernel && factor_test s known st rank (factor_of kernel)))))))
+    && (is_apart (slot_of (target kernel)) (reads kernel) && (is_shaped (st.tiles rank) kernel && (has_divisors (st.tiles rank) kernel && (is_placed s rank kernel && (has_strips s rank (st.tiles rank) kernel && factor_test s known st rank (factor_of kernel))))))))
 rec_test s known st (r.Send from to x) = st.live from && (nat_lt to (ranks s) && (holds (st.tiles from) x && (nat_lt (length (st.links from to)) s.capacity && is_path s st from to)))
 rec_test s known st (r.Recv to from x) = st.live to && fits st to x (st.links from to)
 rec_test s known st (r.Save rank slot) = st.live rank && (is_some (st.tiles rank slot) && (not (st.fresh rank slot) && not (is_some (st.saved rank slot))))
