@@ -8,7 +8,7 @@ use Rattle.run_data.specs.Matrix.{Matrix, cols, entry}
 use Rattle.run_data.specs.Parts.{IsWithin, patched, with_part, part_entry, whole_part}
 use Rattle.run_data.proofs.Matrices.{tabulate-same}
 use Rattle.local_blas.specs.Kernels.{multiplier, eliminated_word, with_eliminated}
-use Rattle.local_blas.proofs.Steps.{loses}
+use Rattle.local_blas.proofs.Steps.{loses_product}
 
 -- the rows from `from` on and the columns from j on
 abbrev pub part_below : Matrix → ℕ → ℕ → Part
@@ -38,11 +38,11 @@ eliminated_first p inverse a j row i x d d' y ex ed ed' ey =
     ey ∙ ap (λ n. (n * d') % p) ex ∙ ap (λ n. (entry a i j * n) % p) (ed' ∙ ap inverse ed) ∙ sym (eliminated_word-first p inverse a j row i)
 
 -- what is left, as it is computed
-pub eliminated_later : (p : ℕ) (inverse : ℕ → ℕ) (a : Matrix) (j : ℕ) (row : ℕ → ℕ) (i k x m r t y : ℕ) → j < k → entry a i k < p → x ≡ entry a i k → m ≡ eliminated_word p inverse a j row i j → r ≡ row k → t ≡ (m * r) % p → y ≡ (x + (p - t)) % p → y ≡ eliminated_word p inverse a j row i k
-eliminated_later p inverse a j row i k x m r t y h word ex em er et ey =
-    loses p (entry a i k) (m * r) t y word et (ey ∙ ap (λ n. (n + (p - t)) % p) ex)
-    ∙ ap (λ n. (entry a i k + (p - 1) * (n * r)) % p) (em ∙ eliminated_word-first p inverse a j row i)
-    ∙ ap (λ n. (entry a i k + (p - 1) * (multiplier p inverse a j (row j) i * n)) % p) er ∙ sym (eliminated_word-later p inverse a j row i k h)
+pub eliminated_later : (p : ℕ) (inverse : ℕ → ℕ) (a : Matrix) (j : ℕ) (row : ℕ → ℕ) (i k x m r n y : ℕ) → j < k → r < p → x ≡ entry a i k → m ≡ eliminated_word p inverse a j row i j → r ≡ row k → n ≡ (p - r) % p → y ≡ (x + m * n) % p → y ≡ eliminated_word p inverse a j row i k
+eliminated_later p inverse a j row i k x m r n y h word ex em er en ey =
+    loses_product p (entry a i k) m r n y word en (ey ∙ ap (λ w. (w + m * n) % p) ex)
+    ∙ ap (λ w. (entry a i k + (p - 1) * (w * r)) % p) (em ∙ eliminated_word-first p inverse a j row i)
+    ∙ ap (λ w. (entry a i k + (p - 1) * (multiplier p inverse a j (row j) i * w)) % p) er ∙ sym (eliminated_word-later p inverse a j row i k h)
 
 patched-part_below : (a : Matrix) (from j : ℕ) (f g : ℕ → ℕ → ℕ) (r c : ℕ) → r < a.rows → c < cols a → patched (part_below a from j) f g r c ≡ (if nat_le from r && nat_le j c then f r c else g r c)
 unfolding patched

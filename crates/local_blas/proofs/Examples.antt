@@ -1,8 +1,7 @@
 -- The kernels' definitions, evaluated at numerals.
-use Rattle.std.proofs.Common.{◌≡◌, ℕ, ◌∷◌, [], true, false, nat_le, refl}
+use Rattle.std.proofs.Common.{◌≡◌, ◌∷◌, [], false, nat_le, refl}
 use Rattle.field_core.specs.Sums.{sum_to}
 use Rattle.field_core.proofs.Computing.{quick_inverse, inverse_walk}
-use Rattle.run_data.specs.declared.matrix.Part.{Part}
 use Rattle.run_data.specs.Matrix.{Matrix, entry, tabulate}
 use Rattle.run_data.specs.Parts.{patched, whole_part}
 use Rattle.local_blas.specs.Kernels.{with_product, substituted, solution, with_solved_lower, with_solved_upper, with_eliminated, with_rows_swapped}

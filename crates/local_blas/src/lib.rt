@@ -12,6 +12,7 @@ mod scaling;
 mod solve;
 #[cfg(test)]
 mod tests;
+mod words;
 
 pub use product::mul_add;
 pub use rows::{eliminate, first_nonzero, swap_rows};

@@ -6,6 +6,7 @@ ghost use Rattle.run_data.specs.Matrix.{Matrix, cols, entry};
 ghost use Rattle.run_data.specs.Parts.{IsWithin};
 ghost use Rattle.local_blas.specs.Kernels.{AreWords, ShapesMultiply, with_product};
 
+use crate::words::add_product;
 use field_core::Field;
 use run_data::{Mat, Part};
 
@@ -35,7 +36,7 @@ pub(crate) fn inner_product<K: Field>(
     for k in 0..count {
         let x = left.get(row, c0 + k);
         let y = right.get(r0 + k, column);
-        sum = K::add(sum, K::mul(x, y));
+        sum = add_product::<K>(sum, x, y);
     }
     sum
 }

@@ -6,6 +6,7 @@ ghost use Rattle.run_data.specs.Matrix.{Matrix, cols, entry};
 ghost use Rattle.run_data.specs.Parts.{whole_part};
 ghost use Rattle.local_blas.specs.Kernels.{AreWords, with_eliminated, with_rows_swapped};
 
+use crate::words::add_product;
 use field_core::Field;
 use run_data::Mat;
 
@@ -71,10 +72,11 @@ pub fn eliminate<K: Field>(dst: &mut Mat, from: u32, j: u32, row: &Mat)
         dst.set(i, j, K::mul(word, inverse));
     }
     for k in j + 1..cols {
+        let negative = K::neg(row.get(0, k));
         for i in from..rows {
             let word = dst.get(i, k);
             let multiplier = dst.get(i, j);
-            dst.set(i, k, K::sub(word, K::mul(multiplier, row.get(0, k))));
+            dst.set(i, k, add_product::<K>(word, multiplier, negative));
         }
     }
 }

@@ -154,6 +154,9 @@ fn solves(rt: HostRuntime) -> Result<(), Fail> {
         x.words(),
         [6554, 48060, 21846, 13017, 45188, 58255].as_slice()
     );
+    let mut x = matrix(&rt, alloc, 3, 1, &[1, 2, 3])?;
+    solve::<F65537>(&rt, &mut x, &upper, false, true);
+    assert_eq!(rt; x.words(), [227, 65500, 3].as_slice());
     Ok(())
 }
 
@@ -172,6 +175,10 @@ fn rows(rt: HostRuntime) -> Result<(), Fail> {
         m.words(),
         [2, 32772, 0, 3, 32769, 1, 5, 32764, 4].as_slice()
     );
+    let mut square = matrix(&rt, alloc, 2, 2, &[2, 1, 1, 1])?;
+    let pivot = matrix(&rt, alloc, 1, 2, &[2, 1])?;
+    eliminate_below::<F65537>(&rt, &mut square, 1, 0, &pivot);
+    assert_eq!(rt; square.words(), [2, 32769, 1, 32769].as_slice());
     Ok(())
 }
 
@@ -201,5 +208,58 @@ fn parts(rt: HostRuntime) -> Result<(), Fail> {
     check_within(&rt, at, &dst);
     put_part(&mut dst, at, &src, sp);
     assert_eq!(rt; dst.words(), [1, 2, 65536, 4, 5, 6, 7, 8, 9].as_slice());
+    Ok(())
+}
+
+#[test]
+fn matrices_of_no_words(rt: HostRuntime) -> Result<(), Fail> {
+    let alloc = rt.alloc();
+    let square = matrix(&rt, alloc, 2, 2, &[2, 1, 0, 1])?;
+    let none = Mat::zeros(alloc, 2, 0)?;
+    let mut no_columns = Mat::zeros(alloc, 2, 0)?;
+    assert!(rt; no_columns.rows() == 2 && no_columns.cols() == 0);
+    swap_rows(&mut no_columns, 0, 1);
+    multiply::<F65537>(&rt, 5, &mut no_columns, 7, &square, &none);
+    solve::<F65537>(&rt, &mut no_columns, &square, true, false);
+    solve::<F65537>(&rt, &mut no_columns, &square, false, true);
+    assert!(rt; no_columns.rows() == 2 && no_columns.words().is_empty());
+    let empty = Mat::zeros(alloc, 0, 0)?;
+    let mut no_rows = Mat::zeros(alloc, 0, 3)?;
+    assert!(rt; no_rows.rows() == 0 && no_rows.cols() == 3);
+    assert_eq!(rt; first_nonzero(&no_rows, 2, 0), None);
+    solve::<F65537>(&rt, &mut no_rows, &empty, true, false);
+    solve::<F65537>(&rt, &mut no_rows, &empty, false, false);
+    assert!(rt; no_rows.cols() == 3 && no_rows.words().is_empty());
+    Ok(())
+}
+
+#[test]
+fn parts_of_no_width(rt: HostRuntime) -> Result<(), Fail> {
+    let alloc = rt.alloc();
+    let words: [u32; 6] = [1, 2, 3, 4, 5, 6];
+    let src = matrix(&rt, alloc, 2, 3, &words)?;
+    let mut dst = matrix(&rt, alloc, 2, 3, &words)?;
+    let at = Part {
+        r0: 0,
+        r1: 2,
+        c0: 1,
+        c1: 1,
+    };
+    check_within(&rt, at, &src);
+    check_words::<F65537>(&rt, &src);
+    check_within(&rt, at, &dst);
+    check_words::<F65537>(&rt, &dst);
+    add_scaled::<F65537>(&mut dst, at, 10, &src, at);
+    check_within(&rt, at, &dst);
+    put_part(&mut dst, at, &src, at);
+    check_within(&rt, at, &dst);
+    check_words::<F65537>(&rt, &dst);
+    scale::<F65537>(&mut dst, at, 0);
+    let left = Mat::zeros(alloc, 2, 0)?;
+    let right = Mat::zeros(alloc, 0, 3)?;
+    multiply::<F65537>(&rt, 1, &mut dst, 7, &left, &right);
+    let row = matrix(&rt, alloc, 1, 3, &[2, 3, 5])?;
+    eliminate_below::<F65537>(&rt, &mut dst, 2, 0, &row);
+    assert_eq!(rt; dst.words(), words.as_slice());
     Ok(())
 }

@@ -24,13 +24,13 @@ multipliers-preserved g c =
 pub loop-k-init : goal.loop-k-init
 loop-k-init g c = c.multipliers.invariant ∙ fill_ends_column _ _ _ _ _ (omega arith)
 
-pub mul-requires-in-loop-i-clause-left : goal.mul-requires-in-loop-i-clause-left
-mul-requires-in-loop-i-clause-left g c =
+pub add_product-requires-clause-left : goal.add_product-requires-clause-left
+add_product-requires-clause-left g c =
     rw (fill_reads_before _ _ _ _ _ _ _ _ _ c.loop-i.invariant c.get-multiplier.ensures (IsWithin-part_below _ _ _ c.requires.from c.requires.column) (omega arith) (omega arith) (omega arith) (omega arith) (omega arith), eliminated_word-first)
     (multiplier-below g.K.Field.MODULUS (inverse g.K.Field.MODULUS) c.args.dst.now c.args.j (part_entry c.args.row.now (whole_part c.args.row.now) 0 c.args.j) c.loop-i.i (omega arith))
 
-pub sub-requires-clause-left : goal.sub-requires-clause-left
-sub-requires-clause-left g c =
+pub add_product-requires-clause-word : goal.add_product-requires-clause-word
+add_product-requires-clause-word g c =
     rw (fill_reads_next _ _ _ _ _ _ _ c.loop-i.invariant c.get-word-in-loop-i.ensures (IsWithin-part_below _ _ _ c.requires.from c.requires.column) (omega arith) (omega arith))
     (c.requires.dst_words.below c.loop-i.i c.loop-k.k)
 
@@ -38,10 +38,10 @@ pub loop-i-preserved : goal.loop-i-preserved
 loop-i-preserved g c =
     let row = part_entry c.args.row.now (whole_part c.args.row.now) 0 in
     fill_goes_on _ _ _ _ _ _ _ _ c.loop-i.invariant c.set-in-loop-i.ensures (omega arith) (omega arith) (omega arith) (omega arith)
-    (eliminated_later g.K.Field.MODULUS (inverse g.K.Field.MODULUS) _ _ row _ _ _ _ _ _ _ (omega arith) (c.requires.dst_words.below c.loop-i.i c.loop-k.k)
+    (eliminated_later g.K.Field.MODULUS (inverse g.K.Field.MODULUS) _ _ row _ _ _ _ _ _ _ (omega arith) (rw c.get-in-loop-k.ensures (c.requires.row_words.below 0 c.loop-k.k))
     (fill_reads_next _ _ _ _ _ _ _ c.loop-i.invariant c.get-word-in-loop-i.ensures (IsWithin-part_below _ _ _ c.requires.from c.requires.column) (omega arith) (omega arith))
     (fill_reads_before _ _ _ _ _ _ _ _ _ c.loop-i.invariant c.get-multiplier.ensures (IsWithin-part_below _ _ _ c.requires.from c.requires.column) (omega arith) (omega arith) (omega arith) (omega arith) (omega arith))
-    (c.get-in-loop-i.ensures ∙ sym (first_row _ _)) c.mul-in-loop-i.ensures c.sub.ensures)
+    (c.get-in-loop-k.ensures ∙ sym (first_row _ _)) c.neg-negative.ensures c.add_product.ensures)
 
 pub loop-k-preserved : goal.loop-k-preserved
 loop-k-preserved g c = c.loop-i.invariant ∙ fill_ends_column _ _ _ _ _ (omega arith)
