@@ -1,13 +1,15 @@
 -- What a combine does.
 use Rattle.std.proofs.Common.{◌≡◌, ◌≢◌, ℕ, zero, suc, ◌-◌, ◌*◌, ◌<◌, ◌≤◌, min, ◌⊎◌, List, [], ◌∷◌, ◌++◌, refl, sym, ◌∙◌, ap, subst, inl, inr, if◌then◌else◌, ltb, true, false, Bool, arith, append_assoc, append-nil}
+use Rattle.std.specs.List.{All}
 use Rattle.std.proofs.lemmas.Bool.Decides.{eqb_tells, leb_tells}
+use Rattle.std.proofs.lemmas.List.Elements.{All-nil, All-cons, All-append, All-tail}
 use Rattle.rank_run.specs.declared.round.Event.{Event}
 use Rattle.rank_run.specs.declared.round.Event.TheVariants.{Local, Move}
 use Rattle.rank_run.specs.Memory.{Memory}
 use Rattle.blacs_comm.specs.declared.topology.Topology.{Topology}
 use Rattle.blacs_comm.specs.declared.topology.Topology.TheVariants.{I, D, T}
 use Rattle.blacs_comm.specs.Leads.{with_memory, Leads, moved, worked}
-use Rattle.blacs_comm.specs.Moves.{joined_at, join_moves, combine_moves, folded, absorbed, all_absorbed, KeepsPiece, IsJoin, Combines}
+use Rattle.blacs_comm.specs.Moves.{joined_at, join_moves, combine_moves, folded, absorbed, all_absorbed, AreJoined, KeepsPiece, IsJoin, Combines}
 use Rattle.blacs_comm.specs.Positions.{rank_at, place_of, AreDistinct}
 use Rattle.blacs_comm.proofs.Leading.{with_same, with_other, leads_move, leads_work, leads_same}
 use Rattle.blacs_comm.proofs.Folds.{fold_places}
@@ -57,6 +59,29 @@ module _ {Mem Op Piece Msg : Type 0} (m : Memory Mem Op Piece Msg) (own work : P
   absorbed-append x [] w = refl
   absorbed-append x (v ∷ ws) w = absorbed-append (absorbed m work join x v) ws w
 
+  joined_none : (x : Mem) → AreJoined m work join good x x
+  joined_none x = record { messages = []; good_each = All-nil (λ w. good w ≡ true); after = refl }
+
+  joined_more : (x y : Mem) (w : Msg) → AreJoined m work join good x y → good w ≡ true → AreJoined m work join good x (absorbed m work join y w)
+  joined_more x y w old gw =
+      record {
+        messages = old.messages ++ w ∷ [];
+        good_each = All-append (λ w. good w ≡ true) old.messages (w ∷ []) old.good_each (All-cons (λ w. good w ≡ true) w [] gw (All-nil (λ w. good w ≡ true)));
+        after = ap (λ (z : Mem). absorbed m work join z w) old.after ∙ sym (absorbed-append x old.messages w);
+      }
+
+  -- what each join of a good message keeps, joins of good messages keep; and they keep a memory fit
+  pub kept_by_joins : (P : Mem → Type 0) → ((x : Mem) (w : Msg) → fit x ≡ true → good w ≡ true → P x → P (absorbed m work join x w)) →
+      (x y : Mem) → AreJoined m work join good x y → fit x ≡ true → P x → (fit y ≡ true) × P y
+  kept_by_joins P keeps x y joined is p =
+      rw joined.after (all_keep x joined.messages joined.good_each is p)
+    where
+      all_keep : (x : Mem) (ws : List Msg) → All (λ w. good w ≡ true) ws → fit x ≡ true → P x → (fit (all_absorbed m work join x ws) ≡ true) × P (all_absorbed m work join x ws)
+      all_keep x [] goods is p = (is, p)
+      all_keep x (w ∷ ws) goods is p =
+          let gw : good w ≡ true = goods 0 w (omega arith) in
+          all_keep (absorbed m work join x w) ws (All-tail (λ w. good w ≡ true) w ws goods) (rule.stays_fit x w is gw) (keeps x w is gw p)
+
   -- the first `count` positions, and where their memories have got to from g
   module _ (at : ℕ → ℕ) (count n : ℕ) (g : ℕ → Mem) (within : (i : ℕ) → i < count → at i < n) (apart : (i j : ℕ) → i < count → j < count → i ≢ j → at i ≢ at j) where
     abbrev pub value_at : (ℕ → Mem) → ℕ → Msg
@@ -64,7 +89,7 @@ module _ {Mem Op Piece Msg : Type 0} (m : Memory Mem Op Piece Msg) (own work : P
 
     pub record Joining (h : ℕ → Mem) : Type 0 where
       pub fit_each : (i : ℕ) → i < count → fit (h (at i)) ≡ true
-      pub joined : (i : ℕ) → i < count → (ws : List Msg) × (h (at i) ≡ all_absorbed m work join (g (at i)) ws)
+      pub joined : (i : ℕ) → i < count → AreJoined m work join good (g (at i)) (h (at i))
       pub kept : (piece : Piece) → KeepsPiece m work join fit good piece → (i : ℕ) → i < count → m.read (h (at i)) piece ≡ m.read (g (at i)) piece
       pub rest : (r : ℕ) → ((i : ℕ) → i < count → r ≢ at i) → h r ≡ g r
 
@@ -107,12 +132,9 @@ module _ {Mem Op Piece Msg : Type 0} (m : Memory Mem Op Piece Msg) (own work : P
           ];
           joined = λ i lt. elim (eqb_tells i p) [
             | inl e ↦
-                let old = j.joined p lp in (
-                  old.0 ++ w ∷ [],
-                  ap (λ (q : ℕ). after_join h c p (at q)) e.1
-                      ∙ (join_here h c p ∙ (ap (λ (x : Mem). absorbed m work join x w) old.1 ∙ (sym (absorbed-append (g (at p)) old.0 w) ∙ ap (λ (q : ℕ). all_absorbed m work join (g (at q)) (old.0 ++ w ∷ [])) (sym e.1)))),
-                )
-            | inr e ↦ ((j.joined i lt).0, join_else h c p i lp lt e.1 ∙ (j.joined i lt).1)
+                subst (λ (q : ℕ). AreJoined m work join good (g (at q)) (after_join h c p (at q))) (sym e.1)
+                (subst (λ (y : Mem). AreJoined m work join good (g (at p)) y) (sym (join_here h c p)) (joined_more (g (at p)) (h (at p)) w (j.joined p lp) (good_at h j c lc)))
+            | inr e ↦ subst (λ (y : Mem). AreJoined m work join good (g (at i)) y) (sym (join_else h c p i lp lt e.1)) (j.joined i lt)
           ];
           kept = λ piece keeps i lt. elim (eqb_tells i p) [
             | inl e ↦
@@ -244,7 +266,7 @@ module _ {Mem Op Piece Msg : Type 0} (m : Memory Mem Op Piece Msg) (own work : P
     pub combined : (t : Topology) (es : List (Event Mem Op Piece Msg)) (f : ℕ → Mem) → ((i : ℕ) → i < count → fit (g (at i)) ≡ true) → Leads m n es f g →
         (h : ℕ → Mem) × Reached (es ++ combine_moves at (joined_at t) count own work join count) f h 0 (folded op (value_at g) (count - 1))
     combined t es f fits l =
-        let start : Joining g = record { fit_each = fits; joined = λ i lt. ([], refl); kept = λ piece keeps i lt. refl; rest = λ r out. refl } in
+        let start : Joining g = record { fit_each = fits; joined = λ i lt. joined_none (g (at i)); kept = λ piece keeps i lt. refl; rest = λ r out. refl } in
         let total = folded op (value_at g) (count - 1) in
         let first : Reached es f g (count - 1) total = record { leads = l; joining = start; sums = refl } in
         let done = all_join t count es f g total (omega arith) (reached_as es es f g (count - 1) (last_of t count) total refl (last_all t) first) in
@@ -277,9 +299,7 @@ module _ {Mem Op Piece Msg : Type 0} (m : Memory Mem Op Piece Msg) where
               ap (λ (q : ℕ). fit (done.0 q)) (sym (ap (member) i.2)) ∙ done.1.joining.fit_each i.0 i.1;
           joined = λ j h.
               let i = any_place t count root j lt h in
-              let e : at i.0 ≡ member j = ap (member) i.2 in
-              let old = done.1.joining.joined i.0 i.1 in
-              (old.0, ap done.0 (sym e) ∙ (old.1 ∙ ap (λ (q : ℕ). all_absorbed m work join (g q) old.0) e));
+              subst (λ (q : ℕ). AreJoined m work join good (g q) (done.0 q)) (ap (member) i.2) (done.1.joining.joined i.0 i.1);
           kept = λ piece keeps j h.
               let i = any_place t count root j lt h in
               let e : at i.0 ≡ member j = ap member i.2 in

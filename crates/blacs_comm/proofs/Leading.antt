@@ -106,7 +106,7 @@ module _ {Mem Op Piece Msg : Type 0} (m : Memory Mem Op Piece Msg) where
       Extends m es es1 Ready1 effect1 → Extends m es1 es2 Ready2 effect2 → Extends m es es2 (λ n g. Ready1 n g × Ready2 n (effect1 g)) (λ g. effect2 (effect1 g))
   extends_then es es1 es2 Ready1 Ready2 effect1 effect2 one two n f g l can = two n f (effect1 g) (one n f g l can.0) can.1
 
-  -- the same where the second call's effect is a relation, and where the first one's is
+  -- the same where the second call's effect is a relation, where the first one's is, and where both are
   pub extends_then_by : (es es1 es2 : List (Event Mem Op Piece Msg)) (Ready1 Ready2 : ℕ → (ℕ → Mem) → Type 0) (effect1 : (ℕ → Mem) → ℕ → Mem) (Effect2 : (ℕ → Mem) → (ℕ → Mem) → Type 0) →
       Extends m es es1 Ready1 effect1 → ExtendsBy m es1 es2 Ready2 Effect2 → ExtendsBy m es es2 (λ n g. Ready1 n g × Ready2 n (effect1 g)) (λ g h. Effect2 (effect1 g) h)
   extends_then_by es es1 es2 Ready1 Ready2 effect1 Effect2 one two n f g l can = two n f (effect1 g) (one n f g l can.0) can.1
@@ -117,8 +117,35 @@ module _ {Mem Op Piece Msg : Type 0} (m : Memory Mem Op Piece Msg) where
   extends_by_then es es1 es2 Ready1 Ready2 Effect1 effect2 one two n f g l can =
       let mid = one n f g l can.0 in (effect2 mid.0, two n f mid.0 mid.1 (can.1 mid.0 mid.2), (mid.0, mid.2, refl))
 
+  pub extends_by_then_by : (es es1 es2 : List (Event Mem Op Piece Msg)) (Ready1 Ready2 : ℕ → (ℕ → Mem) → Type 0) (Effect1 Effect2 : (ℕ → Mem) → (ℕ → Mem) → Type 0) →
+      ExtendsBy m es es1 Ready1 Effect1 → ExtendsBy m es1 es2 Ready2 Effect2 →
+      ExtendsBy m es es2 (λ n g. Ready1 n g × ((h : ℕ → Mem) → Effect1 g h → Ready2 n h)) (λ g k. (h : ℕ → Mem) × Effect1 g h × Effect2 h k)
+  extends_by_then_by es es1 es2 Ready1 Ready2 Effect1 Effect2 one two n f g l can =
+      let mid = one n f g l can.0 in
+      let end = two n f mid.0 mid.1 (can.1 mid.0 mid.2) in (end.0, end.1, (mid.0, mid.2, end.2))
+
   -- a round that was built from none may be run from memories that are ready
   pub may_of_extends : (es es' : List (Event Mem Op Piece Msg)) (Ready : ℕ → (ℕ → Mem) → Type 0) (effect : (ℕ → Mem) → ℕ → Mem) (d : Mem) (mems : List Mem) (n : ℕ) → Extends m es es' Ready effect → es ≡ [] → length mems ≡ n → Ready n (λ r. get_or mems r d) → MayRun m mems es'
   may_of_extends es es' Ready effect d mems n extends none count ready =
       let f : ℕ → Mem = λ r. get_or mems r d in
       subst (λ (l : List Mem). MayRun m l es') (ap (λ k. memories k f) (sym count) ∙ list_memories d mems) (extends n f f (leads_start n es f none) ready).may
+
+  -- the same where the effect is a relation
+  pub may_of_extends_by : (es es' : List (Event Mem Op Piece Msg)) (Ready : ℕ → (ℕ → Mem) → Type 0) (Effect : (ℕ → Mem) → (ℕ → Mem) → Type 0) (d : Mem) (mems : List Mem) (n : ℕ) → ExtendsBy m es es' Ready Effect → es ≡ [] → length mems ≡ n → Ready n (λ r. get_or mems r d) → MayRun m mems es'
+  may_of_extends_by es es' Ready Effect d mems n extends none count ready =
+      let f : ℕ → Mem = λ r. get_or mems r d in
+      subst (λ (l : List Mem). MayRun m l es') (ap (λ k. memories k f) (sym count) ∙ list_memories d mems) (extends n f f (leads_start n es f none) ready).1.may
+
+  -- and leaves the memories that its effect says
+  pub after_of_extends : (es es' : List (Event Mem Op Piece Msg)) (Ready : ℕ → (ℕ → Mem) → Type 0) (effect : (ℕ → Mem) → ℕ → Mem) (d : Mem) (mems : List Mem) (n : ℕ) → Extends m es es' Ready effect → es ≡ [] → length mems ≡ n → Ready n (λ r. get_or mems r d) →
+      after_events m mems es' ≡ memories n (effect (λ r. get_or mems r d))
+  after_of_extends es es' Ready effect d mems n extends none count ready =
+      let f : ℕ → Mem = λ r. get_or mems r d in
+      subst (λ (l : List Mem). after_events m l es' ≡ memories n (effect f)) (ap (λ k. memories k f) (sym count) ∙ list_memories d mems) (extends n f f (leads_start n es f none) ready).after
+
+  pub after_of_extends_by : (es es' : List (Event Mem Op Piece Msg)) (Ready : ℕ → (ℕ → Mem) → Type 0) (Effect : (ℕ → Mem) → (ℕ → Mem) → Type 0) (d : Mem) (mems : List Mem) (n : ℕ) → ExtendsBy m es es' Ready Effect → es ≡ [] → length mems ≡ n → Ready n (λ r. get_or mems r d) →
+      (h : ℕ → Mem) × (after_events m mems es' ≡ memories n h) × Effect (λ r. get_or mems r d) h
+  after_of_extends_by es es' Ready Effect d mems n extends none count ready =
+      let f : ℕ → Mem = λ r. get_or mems r d in
+      let led = extends n f f (leads_start n es f none) ready in
+      (led.0, subst (λ (l : List Mem). after_events m l es' ≡ memories n led.0) (ap (λ k. memories k f) (sym count) ∙ list_memories d mems) led.1.after, led.2)

@@ -1,4 +1,5 @@
 pub mod Counts
+pub mod Ends
 pub mod Folds
 pub mod Joins
 pub mod Leading

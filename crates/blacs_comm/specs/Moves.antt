@@ -1,5 +1,6 @@
 -- The moves of broadcasts and combines.
 use Rattle.std.specs.Prelude.{◌≡◌, ◌≢◌, ℕ, zero, suc, ◌-◌, ◌*◌, ◌==◌, ◌<◌, ◌&&◌, ◌||◌, not, Bool, true, false, List, [], ◌∷◌, ◌++◌, if◌then◌else◌, ltb}
+use Rattle.std.specs.List.{All}
 use Rattle.rank_run.specs.declared.round.Event.{Event}
 use Rattle.rank_run.specs.declared.round.Event.TheVariants.{Local, Move}
 use Rattle.rank_run.specs.Memory.{Memory}
@@ -68,6 +69,12 @@ module _ {Mem Op Piece Msg : Type 0} where
   all_absorbed m work join x [] = x
   all_absorbed m work join x (w ∷ ws) = all_absorbed m work join (absorbed m work join x w) ws
 
+  -- joins of good messages, one after the other, make y of the memory x
+  pub record AreJoined (m : Memory Mem Op Piece Msg) (work : Piece) (join : Op) (good : Msg → Bool) (x y : Mem) : Type 0 where
+    pub messages : List Msg
+    pub good_each : All (λ w. good w ≡ true) messages
+    pub after : y ≡ all_absorbed m work join x messages
+
   -- `join` folds `work` into `own` by an operation that is associative and commutative on good messages, wherever a memory is fit
   pub record IsJoin (m : Memory Mem Op Piece Msg) (own work : Piece) (join : Op) (op : Msg → Msg → Msg) (fit : Mem → Bool) (good : Msg → Bool) : Type 0 where
     pub can_read : (x : Mem) → fit x ≡ true → m.can_read x own
@@ -85,11 +92,11 @@ module _ {Mem Op Piece Msg : Type 0} where
   KeepsPiece m work join fit good piece =
       (x : Mem) (w : Msg) → fit x ≡ true → good w ≡ true → m.read (absorbed m work join x w) piece ≡ m.read x piece
 
-  -- the root holds the fold over all members, in member order; what no join changes each member holds as before, and no other rank has changed
+  -- the root holds the fold over all members, in member order; each member is as joins of good messages leave it, so what no join changes it holds as before, and no other rank has changed
   pub record IsCombined (m : Memory Mem Op Piece Msg) (member : ℕ → ℕ) (count root : ℕ) (own work : Piece) (join : Op) (op : Msg → Msg → Msg) (fit : Mem → Bool) (good : Msg → Bool) (g h : ℕ → Mem) : Type 0 where
     pub total : m.read (h (member root)) own ≡ folded op (λ j. m.read (g (member j)) own) (count - 1)
     pub fit_each : (j : ℕ) → j < count → fit (h (member j)) ≡ true
-    pub joined : (j : ℕ) → j < count → (ws : List Msg) × (h (member j) ≡ all_absorbed m work join (g (member j)) ws)
+    pub joined : (j : ℕ) → j < count → AreJoined m work join good (g (member j)) (h (member j))
     pub kept : (piece : Piece) → KeepsPiece m work join fit good piece → (j : ℕ) → j < count → m.read (h (member j)) piece ≡ m.read (g (member j)) piece
     pub rest : (r : ℕ) → ((j : ℕ) → j < count → r ≢ member j) → h r ≡ g r
 
@@ -106,16 +113,18 @@ module _ {Mem Op Piece Msg : Type 0} where
   abbrev pub KeepsPieceOn : Memory Mem Op Piece Msg → Piece → (Mem → Bool) → (Msg → Bool) → Piece → Type 0
   KeepsPieceOn m own fit good piece = (x : Mem) (w : Msg) → fit x ≡ true → good w ≡ true → m.read (m.written x own w) piece ≡ m.read x piece
 
-  -- each member holds the fold over all members, in member order; what no join and no write into `own` changes it holds as before, and no other rank has changed
-  pub record IsCombinedAll (m : Memory Mem Op Piece Msg) (member : ℕ → ℕ) (count : ℕ) (own work : Piece) (join : Op) (op : Msg → Msg → Msg) (fit : Mem → Bool) (good : Msg → Bool) (g h : ℕ → Mem) : Type 0 where
+  -- each member holds the fold over all members, in member order: the root after its joins, each other member written into its `own` after its joins; what no join and no write into `own` changes it holds as before, and no other rank has changed
+  pub record IsCombinedAll (m : Memory Mem Op Piece Msg) (member : ℕ → ℕ) (count root : ℕ) (own work : Piece) (join : Op) (op : Msg → Msg → Msg) (fit : Mem → Bool) (good : Msg → Bool) (g h : ℕ → Mem) : Type 0 where
     pub total : (j : ℕ) → j < count → m.read (h (member j)) own ≡ folded op (λ j. m.read (g (member j)) own) (count - 1)
+    pub joined : AreJoined m work join good (g (member root)) (h (member root))
+    pub written : (j : ℕ) → j < count → j ≢ root → (x : Mem) × AreJoined m work join good (g (member j)) x × (h (member j) ≡ m.written x own (folded op (λ i. m.read (g (member i)) own) (count - 1)))
     pub kept : (piece : Piece) → KeepsPiece m work join fit good piece → KeepsPieceOn m own fit good piece → (j : ℕ) → j < count → m.read (h (member j)) piece ≡ m.read (g (member j)) piece
     pub rest : (r : ℕ) → ((j : ℕ) → j < count → r ≢ member j) → h r ≡ g r
 
   abbrev pub CombinesAll : Memory Mem Op Piece Msg → List (Event Mem Op Piece Msg) → List (Event Mem Op Piece Msg) → (ℕ → ℕ) → ℕ → ℕ → Piece → Piece → Op → Type 0
   CombinesAll m es es' member count root own work join =
       (op : Msg → Msg → Msg) (fit : Mem → Bool) (good : Msg → Bool) → IsJoin m own work join op fit good → CanSpread m own fit good →
-      ExtendsBy m es es' (AreFit member count fit) (IsCombinedAll m member count own work join op fit good)
+      ExtendsBy m es es' (AreFit member count fit) (IsCombinedAll m member count root own work join op fit good)
 
   -- the moves of a broadcast from `own` to `own`, where the result is for all members
   abbrev pub sharing_moves : Bool → (ℕ → ℕ) → (ℕ → ℕ) → Piece → ℕ → List (Event Mem Op Piece Msg)

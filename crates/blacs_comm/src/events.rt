@@ -92,120 +92,83 @@ pub fn broadcast<S: Store>(
     Ok(())
 }
 
-/// Appends the move of a position's own piece to another position, and the join there, if the first has a member.
-fn join_from<S: Store>(
-    round: &mut Round<S>,
-    grid: &Grid,
+/// The joins of a combine: the scope that it goes over, the pieces, and the operation that folds `work` into `own`.
+#[derive(Drop)]
+struct Joins<S: Store> {
+    grid: Grid,
     scope: Scope,
     topology: Topology,
     root: u32,
     own: S::Piece,
     work: S::Piece,
     join: S::Op,
+}
+
+/// Appends the move of a position's own piece to another position, and the join there, if the first has a member.
+fn join_from<S: Store>(
+    round: &mut Round<S>,
+    joins: &Joins<S>,
     child: u32,
     parent: u32,
 ) -> Result<(), NoMemory>
-    requires grid { IsGrid grid.now }
-    requires scope_in { IsScopeOf grid.now scope }
-    requires root { root < members grid.now scope }
-    requires parent { parent < members grid.now scope }
+    requires grid { IsGrid joins.now.grid }
+    requires scope_in { IsScopeOf joins.now.grid joins.now.scope }
+    requires root { joins.now.root < members joins.now.grid joins.now.scope }
+    requires parent { parent < members joins.now.grid joins.now.scope }
     ensures { OnOk result
         (round.new ≡ round.old
-        ++ join_moves (rank_at (member grid.now scope) (members grid.now scope) topology root)
-        (members grid.now scope) own work join parent (child ∷ [])) }
+        ++ join_moves (rank_at (member joins.now.grid joins.now.scope) (members joins.now.grid joins.now.scope) joins.now.topology joins.now.root)
+        (members joins.now.grid joins.now.scope) joins.now.own joins.now.work joins.now.join parent (child ∷ [])) }
 {
-    if child < grid.members(scope) {
-        let from = rank(grid, scope, topology, root, child);
-        let to = rank(grid, scope, topology, root, parent);
-        round.push(Event::Move(from, to, own, work))?;
-        round.push(Event::Local(to, join))?;
+    if child < joins.grid.members(joins.scope) {
+        let from = rank(&joins.grid, joins.scope, joins.topology, joins.root, child);
+        let to = rank(&joins.grid, joins.scope, joins.topology, joins.root, parent);
+        round.push(Event::Move(from, to, joins.own, joins.work))?;
+        round.push(Event::Local(to, joins.join))?;
     }
     Ok(())
 }
 
 /// Appends the joins of one position.
-fn join_all<S: Store>(
-    round: &mut Round<S>,
-    grid: &Grid,
-    scope: Scope,
-    topology: Topology,
-    root: u32,
-    own: S::Piece,
-    work: S::Piece,
-    join: S::Op,
-    parent: u32,
-) -> Result<(), NoMemory>
-    requires grid { IsGrid grid.now }
-    requires scope_in { IsScopeOf grid.now scope }
-    requires root { root < members grid.now scope }
-    requires parent { parent < members grid.now scope }
+fn join_all<S: Store>(round: &mut Round<S>, joins: &Joins<S>, parent: u32) -> Result<(), NoMemory>
+    requires grid { IsGrid joins.now.grid }
+    requires scope_in { IsScopeOf joins.now.grid joins.now.scope }
+    requires root { joins.now.root < members joins.now.grid joins.now.scope }
+    requires parent { parent < members joins.now.grid joins.now.scope }
     ensures { OnOk result
         (round.new ≡ round.old
-        ++ join_moves (rank_at (member grid.now scope) (members grid.now scope) topology root)
-        (members grid.now scope) own work join parent (joined_at topology parent)) }
+        ++ join_moves (rank_at (member joins.now.grid joins.now.scope) (members joins.now.grid joins.now.scope) joins.now.topology joins.now.root)
+        (members joins.now.grid joins.now.scope) joins.now.own joins.now.work joins.now.join parent (joined_at joins.now.topology parent)) }
 {
-    match topology {
-        Topology::I | Topology::D => {
-            join_from(
-                round,
-                grid,
-                scope,
-                topology,
-                root,
-                own,
-                work,
-                join,
-                parent + 1,
-                parent,
-            )
-        }
+    match joins.topology {
+        Topology::I | Topology::D => join_from(round, joins, parent + 1, parent),
         Topology::T => {
             let left = 2 * parent + 1;
-            join_from(
-                round, grid, scope, topology, root, own, work, join, left, parent,
-            )?;
-            join_from(
-                round,
-                grid,
-                scope,
-                topology,
-                root,
-                own,
-                work,
-                join,
-                left + 1,
-                parent,
-            )
+            join_from(round, joins, left, parent)?;
+            join_from(round, joins, left + 1, parent)
         }
     }
 }
 
 /// Appends the moves and joins that fold the members' own pieces into the root's.
-fn combine_to_root<S: Store>(
-    round: &mut Round<S>,
-    grid: &Grid,
-    scope: Scope,
-    topology: Topology,
-    root: u32,
-    own: S::Piece,
-    work: S::Piece,
-    join: S::Op,
-) -> Result<(), NoMemory>
-    requires grid { IsGrid grid.now }
-    requires scope_in { IsScopeOf grid.now scope }
-    requires root { root < members grid.now scope }
+fn combine_to_root<S: Store>(round: &mut Round<S>, joins: &Joins<S>) -> Result<(), NoMemory>
+    requires grid { IsGrid joins.now.grid }
+    requires scope_in { IsScopeOf joins.now.grid joins.now.scope }
+    requires root { joins.now.root < members joins.now.grid joins.now.scope }
     ensures moves { OnOk result
         (round.new ≡ round.old
-        ++ combine_moves (rank_at (member grid.now scope) (members grid.now scope) topology root)
-        (joined_at topology) (members grid.now scope) own work join (members grid.now scope)) }
-    ensures steps { OnOk result (steps round.new ≡ steps round.old + 3 * (members grid.now scope - 1)) }
+        ++ combine_moves (rank_at (member joins.now.grid joins.now.scope) (members joins.now.grid joins.now.scope) joins.now.topology joins.now.root)
+        (joined_at joins.now.topology) (members joins.now.grid joins.now.scope) joins.now.own joins.now.work joins.now.join
+        (members joins.now.grid joins.now.scope)) }
+    ensures steps { OnOk result (steps round.new ≡ steps round.old + 3 * (members joins.now.grid joins.now.scope - 1)) }
     ensures leads { OnOk result
-        (Combines S.memory round.old round.new (member grid.now scope) (members grid.now scope) root own work join) }
+        (Combines S.memory round.old round.new (member joins.now.grid joins.now.scope) (members joins.now.grid joins.now.scope)
+        joins.now.root joins.now.own joins.now.work joins.now.join) }
 {
-    let mut parent = grid.members(scope);
+    let mut parent = joins.grid.members(joins.scope);
     while 0 < parent {
         parent -= 1;
-        join_all(round, grid, scope, topology, root, own, work, join, parent)?;
+        join_all(round, joins, parent)?;
     }
     Ok(())
 }
@@ -243,7 +206,16 @@ pub fn combine<S: Store>(
         (CombinesAll S.memory round.old round.new (member grid.now scope) (members grid.now scope) root own work join)
         (Combines S.memory round.old round.new (member grid.now scope) (members grid.now scope) root own work join)) }
 {
-    combine_to_root(round, grid, scope, topology, root, own, work, join)?;
+    let joins = Joins {
+        grid: *grid,
+        scope,
+        topology,
+        root,
+        own,
+        work,
+        join,
+    };
+    combine_to_root(round, &joins)?;
     if !to_all {
         return Ok(());
     }
