@@ -7,7 +7,8 @@ use Rattle.elimination.proofs.Exchanges.{swapped-below}
 use Rattle.elimination.proofs.Steps.{IsPivot, pivot_from-is, IsStep}
 use Rattle.elimination.proofs.PanelLaws.{step-at}
 
-least_zero-same : (c d : ℕ → ℕ) (n : ℕ) → ((i : ℕ) → i < n → c i ≡ d i) → least_zero c n ≡ least_zero d n
+-- the number depends on the tested words alone
+pub least_zero-same : (c d : ℕ → ℕ) (n : ℕ) → ((i : ℕ) → i < n → c i ≡ d i) → least_zero c n ≡ least_zero d n
 unfolding least_zero
 least_zero-same c d zero same = refl
 least_zero-same c d (suc n) same =

@@ -4,11 +4,13 @@ pub mod Reductions
 pub mod PanelLaws
 pub mod CodeLaws
 pub mod Stages
+pub mod RowsLaws
 pub mod Info
 pub mod SolveLaws
 pub mod Words
 pub mod UpperLaws
 pub mod Pivots
+pub mod Numbers
 pub mod StripMaps
 pub mod StripLaws
 pub mod StripColumns
@@ -17,3 +19,4 @@ mod WholeExchanges
 mod WholeSteps
 mod WholeLoops
 mod WholeCarried
+mod ByPanels

@@ -2,10 +2,8 @@ use Rattle.std.proofs.Common.{◌≡◌, ℕ, suc, ◌+◌, ◌-◌, ◌*◌, �
 use Rattle.std.proofs.Math.Path.{fun_ext}
 use Rattle.std.proofs.Math.Nat.{mod-mod}
 use Rattle.std.proofs.lemmas.Bool.{cases_lt}
-use Rattle.std.proofs.lemmas.Nat.{mul-mod_second}
 use Rattle.field_core.specs.Sums.{sum_to}
-use Rattle.field_core.proofs.Modular.{same_scaled}
-use Rattle.field_core.proofs.Sums.{sum_to-same, sum_to-same_mod, sum_to-scale}
+use Rattle.field_core.proofs.Sums.{sum_to-same}
 use Rattle.field_core.proofs.WeightedSums.{weighted-scaled}
 use Rattle.local_blas.specs.Kernels.{solution, upper_solution}
 use Rattle.local_blas.proofs.Products.{product-split}

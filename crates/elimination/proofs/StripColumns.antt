@@ -1,21 +1,23 @@
 -- From strips to columns: searches, weighted sums, and which columns a group has.
-use Rattle.std.proofs.Common.{◌≡◌, ◌≢◌, ℕ, ◌+◌, ◌-◌, ◌*◌, ◌%◌, ◌<◌, ◌≤◌, true, false, nat_lt, sym, ◌∙◌, ap, arith, inl, inr, List}
+use Rattle.std.proofs.Common.{◌≡◌, ◌≢◌, ℕ, ◌+◌, ◌-◌, ◌*◌, ◌%◌, ◌<◌, ◌≤◌, true, false, nat_lt, refl, sym, ◌∙◌, ap, arith, inl, inr, List}
 use Rattle.std.proofs.Math.Nat.{mod-lt}
 use Rattle.std.proofs.lemmas.Bool.{cases_lt, lt-ltb, le-ltb}
 use Rattle.std.proofs.lemmas.Nat.{mul-le}
 use Rattle.field_core.specs.Sums.{sum_to}
 use Rattle.field_core.proofs.Sums.{sum_to-same, sum_to-zero}
 use Rattle.run_data.specs.Matrix.{Matrix, entry}
+use Rattle.run_data.specs.Parts.{part_entry}
 use Rattle.array_desc.specs.Maps.{block_in, group_of}
+use Rattle.array_desc.proofs.CountLaws.{numroc-le}
 use Rattle.array_desc.proofs.GroupLaws.{owner-block_in, group_of-block_in, block_in-group_of}
 use Rattle.elimination.specs.CodeLaw.{IsWeightedSum, IsOwn, IsOutside, Ahead, Open, Closed, stage_at}
 use Rattle.elimination.proofs.Stages.{stage_at-closed, stage_at-open, stage_at-ahead}
-use Rattle.elimination.specs.Strips.{RowMap, IsRowMap, rows_below, row_at, row_owner, row_place, Hold, held, group_column, IsBlock, AreSolved, HaveGained, solved_rows}
+use Rattle.elimination.specs.Strips.{RowMap, IsRowMap, rows_below, row_at, row_owner, row_place, Hold, held, group_column, IsBlock, AreSolved, HaveGained, solved_rows, span, block_rows}
 use Rattle.elimination.proofs.StripMaps.{row_owner-lt, row_at-owner, row_owner-at, row_place-at, row_place-lt, row_at-lt}
 use Rattle.run_data.specs.declared.matrix.Part.{Part}
 use Rattle.serial_model.specs.Elimination.{Eliminated, eliminate_columns, exchanged}
 use Rattle.elimination.specs.Panels.{IsReady, IsPanel, carried}
-use Rattle.elimination.proofs.StripLaws.{hold-same, block_row-held}
+use Rattle.elimination.proofs.StripLaws.{hold-same, block_words, block_row-held}
 use Rattle.elimination.proofs.PanelLaws.{column-carried_by, column-exchanged_by}
 
 -- a word that strips hold, at its owner
@@ -129,3 +131,13 @@ pub exchanged-held : (d : RowMap) (width p : ℕ) (inverse : ℕ → ℕ) (first
 exchanged-held d width p inverse first n start s l v strips' map inside before ready panel hold =
     hold-same d width (λ i c. exchanged v first n (λ r. s.words r (start + c)) i) (λ i c. (eliminate_columns p inverse d.m first n s).words i (start + c)) strips' map
     (λ i c _ hc. sym (column-exchanged_by p inverse d.m first n s l v i (start + c) inside ready panel (omega arith))) hold
+
+-- the part of a strip with the global rows of a range
+pub span-words : (d : RowMap) (width lo hi n : ℕ) (f : ℕ → ℕ → ℕ) (strips : ℕ → Matrix) (row i k : ℕ) → IsRowMap d → Hold d width f strips → hi ≤ d.m → n ≤ width → row < d.procs → rows_below d lo row + i < rows_below d hi row → k < n → part_entry (strips row) (span d lo hi n row) i k ≡ f (row_at d row (rows_below d lo row + i)) k
+span-words d width lo hi n f strips row i k map hold hm hn h hi_row hk =
+    let all : rows_below d hi row ≤ rows_below d d.m row = numroc-le hi d.m d.mb row d.src d.procs hm in
+    ap (entry (strips row) (rows_below d lo row + i)) (let e : 0 + k ≡ k = omega arith in e) ∙ hold.words row (rows_below d lo row + i) k h (omega arith) (omega arith)
+
+-- the rows of one block, on their process row
+pub block-words : (d : RowMap) (width first n : ℕ) (f : ℕ → ℕ → ℕ) (strips : ℕ → Matrix) (k c : ℕ) → IsRowMap d → IsBlock d first n → Hold d width f strips → k < n → c < width → part_entry (strips (row_owner d first)) (block_rows d first n width) k c ≡ f (first + k) c
+block-words d width first n f strips k c map block hold hk hc = block_words d width first n f strips k c c map block hold hk hc refl

@@ -170,7 +170,7 @@ block-held d width first n f g w strips strips' map block made others hold words
         ]
 
 -- the words of the block's rows, as the kernels read them
-block_words : (d : RowMap) (width first n : ℕ) (f : ℕ → ℕ → ℕ) (strips : ℕ → Matrix) (r j c : ℕ) → IsRowMap d → IsBlock d first n → Hold d width f strips → r < n → c < width → j ≡ c → part_entry (strips (row_owner d first)) (block_rows d first n width) r j ≡ f (first + r) c
+pub block_words : (d : RowMap) (width first n : ℕ) (f : ℕ → ℕ → ℕ) (strips : ℕ → Matrix) (r j c : ℕ) → IsRowMap d → IsBlock d first n → Hold d width f strips → r < n → c < width → j ≡ c → part_entry (strips (row_owner d first)) (block_rows d first n width) r j ≡ f (first + r) c
 block_words d width first n f strips r j c map block hold hr hc e =
     let o = row_owner d first in
     let place : row_place d first + r < rows_below d d.m o =
@@ -244,10 +244,10 @@ gain-held d width p a l n y f lo hi left lp right rp strips strips' map done hol
         let column : c - 0 ≡ c = omega arith in
         let sums : product_word (left row) (lp row) (right row) (rp row) i (c - 0) ≡ sum_to n (λ k. l (row_at d row r) k * y k c) =
         ap (product_word (left row) (lp row) (right row) (rp row) i) column
-        ∙ ap (λ m. sum_to m (λ k. part_entry (left row) (lp row) i k * part_entry (right row) (rp row) k c)) (done.inner row h)
+        ∙ ap (λ m. sum_to m (λ k. part_entry (left row) (lp row) i k * part_entry (right row) (rp row) k c)) (done.inner row h (omega arith))
         ∙ sum_to-same n (λ k. part_entry (left row) (lp row) i k * part_entry (right row) (rp row) k c) (λ k. l (row_at d row r) k * y k c)
         (λ k hk. ap (λ v. v * part_entry (right row) (rp row) k c) (done.left_words row i k h (omega arith) hk ∙ ap (λ m. l (row_at d row m) k) back)
-        ∙ ap (λ v. l (row_at d row r) k * v) (done.right_words row k c h hk hc)) in
+        ∙ ap (λ v. l (row_at d row r) k * v) (done.right_words row k c h (omega arith) hk hc)) in
         ap (λ v. (v + a * product_word (left row) (lp row) (right row) (rp row) i (c - 0)) % p) (hold.words row r c h hl hc) ∙ ap (λ s. (f (row_at d row r) c + a * s) % p) sums
 
     some_rows : (row r c : ℕ) → row < d.procs → r < rows_below d d.m row → c < width → rows_below d lo row < rows_below d hi row → entry (strips' row) r c ≡ in_rows lo hi gain f (row_at d row r) c

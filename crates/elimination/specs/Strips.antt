@@ -96,9 +96,9 @@ pub record AreUpperSolved (d : RowMap) (width : ℕ) (p : ℕ) (inverse : ℕ �
 pub record HaveGained (d : RowMap) (width : ℕ) (p a : ℕ) (l : ℕ → ℕ → ℕ) (n : ℕ) (y : ℕ → ℕ → ℕ) (lo hi : ℕ) (left : ℕ → Matrix) (lp : ℕ → Part) (right : ℕ → Matrix) (rp : ℕ → Part) (strips strips' : ℕ → Matrix) : Type 0 where
   pub made : (row : ℕ) → row < d.procs → rows_below d lo row < rows_below d hi row → strips' row ≡ with_product p (strips row) (span d lo hi width row) a (left row) (lp row) (right row) (rp row)
   pub others : (row : ℕ) → row < d.procs → rows_below d hi row ≤ rows_below d lo row → strips' row ≡ strips row
-  pub inner : (row : ℕ) → row < d.procs → (lp row).c1 - (lp row).c0 ≡ n
+  pub inner : (row : ℕ) → row < d.procs → rows_below d lo row < rows_below d hi row → (lp row).c1 - (lp row).c0 ≡ n
   pub left_words : (row i k : ℕ) → row < d.procs → rows_below d lo row + i < rows_below d hi row → k < n → part_entry (left row) (lp row) i k ≡ l (row_at d row (rows_below d lo row + i)) k
-  pub right_words : (row k c : ℕ) → row < d.procs → k < n → c < width → part_entry (right row) (rp row) k c ≡ y k c
+  pub right_words : (row k c : ℕ) → row < d.procs → rows_below d lo row < rows_below d hi row → k < n → c < width → part_entry (right row) (rp row) k c ≡ y k c
 
 -- column j of each strip was eliminated in its rows below row `above`, by a part of one row with the words of that row
 pub record AreEliminated (d : RowMap) (width : ℕ) (p : ℕ) (inverse : ℕ → ℕ) (above j : ℕ) (f : ℕ → ℕ → ℕ) (line : ℕ → Matrix) (at : ℕ → Part) (strips strips' : ℕ → Matrix) : Type 0 where

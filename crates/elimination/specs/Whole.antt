@@ -1,5 +1,5 @@
 -- Panels on one matrix, whose strips are matrices of their own.
-use Rattle.std.specs.Prelude.{ℕ, ◌+◌, ◌-◌, ◌<◌, ◌≤◌, slice_index, List}
+use Rattle.std.specs.Prelude.{ℕ, ◌+◌, ◌-◌, ◌<◌, ◌≤◌, min, slice_index, List}
 use Rattle.run_data.specs.Matrix.{Matrix, cols, entry, tabulate}
 use Rattle.serial_model.specs.Elimination.{Eliminated, exchanged}
 use Rattle.elimination.specs.Panels.{carried}
@@ -28,3 +28,11 @@ strip_of m n first f = tabulate m n (λ i k. f i (first + k))
 -- the strip as a state of the elimination, after the pivots v
 abbrev pub strip_state : ℕ → Matrix → List ℕ → Eliminated
 strip_state first a v = record { words = strip_words first a; pivots = v; info = 0 }
+
+-- a matrix as a state of the elimination, after the pivots v
+abbrev pub whole_state : Matrix → List ℕ → Eliminated
+whole_state a v = record { words = entry a; pivots = v; info = 0 }
+
+-- how many columns the panel of at most nb columns that begins at column `first` eliminates
+abbrev pub panel_count : Matrix → ℕ → ℕ → ℕ
+panel_count a first nb = min nb (min a.rows (cols a) - first)

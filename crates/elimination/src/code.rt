@@ -120,3 +120,29 @@ pub fn stages_follow_blocks()
         c < nb →
         (b < k → (opened : ℕ) → stage_at (k * nb) opened (b * nb + c) ≡ Closed) × (b ≡ k → stage_at (k * nb) nb (b * nb + c) ≡ Open) × (k ≤ b → stage_at (k * nb) 0 (b * nb + c) ≡ Ahead) × (k < b → stage_at (k * nb) nb (b * nb + c) ≡ Ahead) }
 {}
+
+/// The negative of a weight times a word takes their product off: so Code loses a column.
+pub fn negative_weights_take_off()
+    ensures { (p w c x : ℕ) → 0 < p → w ≤ p → (c + (p - w) * x) % p ≡ (c + (p - 1) * (w * x)) % p }
+{}
+
+/// Weighted sums at the rows of the matrix are weighted sums of columns that are zero past them,
+/// as those are that strips hold.
+pub fn rows_give_weighted_sums()
+    ensures { (p n m : ℕ) (w : ℕ → ℕ) (x x' : ℕ → ℕ → ℕ) (c c' : ℕ → ℕ) →
+        IsWeightedSum p n w x c →
+        ((i : ℕ) → i < m → c' i ≡ c i) → ((q i : ℕ) → q < n → i < m → x' q i ≡ x q i) →
+        ((i : ℕ) → m ≤ i → c' i ≡ 0) → ((q i : ℕ) → q < n → m ≤ i → x' q i ≡ 0) →
+        IsWeightedSum p n w x' c' }
+{}
+
+/// The law of a group at the rows of the matrix is the law of columns that are zero past them.
+pub fn rows_give_the_code()
+    ensures { (p n m : ℕ) (w : ℕ → ℕ) (stage : ℕ → Stage) (d : ℕ → ℕ) (x x' : ℕ → ℕ → ℕ) (code low open_words code' low' open' : ℕ → ℕ) →
+        IsCoded p n w stage d x code low open_words →
+        ((q i : ℕ) → q < n → i < m → x' q i ≡ x q i) →
+        ((i : ℕ) → i < m → (code' i ≡ code i) × (low' i ≡ low i) × (open' i ≡ open_words i)) →
+        ((q i : ℕ) → q < n → m ≤ i → x' q i ≡ 0) →
+        ((i : ℕ) → m ≤ i → (code' i ≡ 0) × (low' i ≡ 0) × (open' i ≡ 0)) →
+        IsCoded p n w stage d x' code' low' open' }
+{}

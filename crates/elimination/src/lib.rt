@@ -8,6 +8,7 @@
 //! eliminated: fewer than its width where the matrix has fewer rows than columns.
 #![tactic(auto)]
 
+pub mod by_panels;
 pub mod code;
 pub mod panel;
 pub mod solve;

@@ -16,7 +16,7 @@ ghost use Rattle.serial_model.specs.Elimination.{Eliminated, eliminate_column, p
 ghost use Rattle.elimination.specs.Panels.{reduced, IsReady, IsPanel};
 ghost use Rattle.elimination.specs.Solves.{upper_reduced};
 ghost use Rattle.elimination.specs.CodeLaw.{IsWeightedSum, IsOwn, IsOutside};
-ghost use Rattle.elimination.specs.Strips.{RowMap, IsRowMap, IsBlock, rows_below, row_at, group_column, row_owner, row_place, Hold, held, AreExchanged, solved_rows, upper_solved_rows, gained_rows, AreSolved, AreUpperSolved, HaveGained, AreEliminated, one_row, HaveAdded, added_words};
+ghost use Rattle.elimination.specs.Strips.{RowMap, IsRowMap, IsBlock, rows_below, row_at, group_column, row_owner, row_place, Hold, held, AreExchanged, solved_rows, upper_solved_rows, gained_rows, span, block_rows, AreSolved, AreUpperSolved, HaveGained, AreEliminated, one_row, HaveAdded, added_words};
 
 /// Strips of the right shape hold the words that are read at their owners.
 pub fn strips_hold_their_words()
@@ -38,6 +38,22 @@ pub fn owners_hold_the_column()
     ensures { (d : RowMap) (width : ℕ) (f : ℕ → ℕ → ℕ) (strips : ℕ → Matrix) (i c : ℕ) →
         IsRowMap d → Hold d width f strips → i < d.m → c < width →
         entry (strips (row_owner d i)) (row_place d i) c ≡ f i c }
+{}
+
+/// The part of a strip with the global rows of a range, in its first columns, has the words of
+/// these rows: what is asked of the left side of an update.
+pub fn spans_have_their_words()
+    ensures { (d : RowMap) (width lo hi n : ℕ) (f : ℕ → ℕ → ℕ) (strips : ℕ → Matrix) (row i k : ℕ) →
+        IsRowMap d → Hold d width f strips → hi ≤ d.m → n ≤ width → row < d.procs → rows_below d lo row + i < rows_below d hi row → k < n →
+        part_entry (strips row) (span d lo hi n row) i k ≡ f (row_at d row (rows_below d lo row + i)) k }
+{}
+
+/// The rows of one block, on their process row, have the words of these rows: what is asked of a
+/// triangle, and of the right side of an update.
+pub fn block_rows_have_their_words()
+    ensures { (d : RowMap) (width first n : ℕ) (f : ℕ → ℕ → ℕ) (strips : ℕ → Matrix) (k c : ℕ) →
+        IsRowMap d → IsBlock d first n → Hold d width f strips → k < n → c < width →
+        part_entry (strips (row_owner d first)) (block_rows d first n width) k c ≡ f (first + k) c }
 {}
 
 /// Where no process row has a word that is not 0 between two global rows of a column, there is
@@ -96,6 +112,11 @@ pub fn exchanges_go_on()
         AreExchanged d width (first + k) (pivot_row v (first + k)) strips strips' →
         Hold d width (λ i c. exchanged v first k (λ r. f r c) i) strips →
         Hold d width (λ i c. exchanged v first (suc k) (λ r. f r c) i) strips' }
+{}
+
+/// A row that changes places with itself: nothing is done.
+pub fn a_row_stays_with_itself()
+    ensures { (d : RowMap) (width i : ℕ) (strips : ℕ → Matrix) → AreExchanged d width i i strips strips }
 {}
 
 /// Rows change places where one process row holds both and exchanges them.
