@@ -1,0 +1,8 @@
+mod Rows
+mod Entries
+mod Beginning
+mod Whole
+mod Keeping
+mod Running
+mod Pivots
+mod Worked

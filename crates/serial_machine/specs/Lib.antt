@@ -1,0 +1,4 @@
+pub mod Values
+pub mod Ready
+pub mod Solved
+pub mod Worked
