@@ -1,4 +1,5 @@
-//! Runs a script on the rank machine: `scalapack_cli SCRIPT [--journal FILE]`. The exit status is the number of the answer.
+//! Runs a script on the rank machine, `scalapack_cli SCRIPT [--journal FILE]`, or serially, `scalapack_cli SCRIPT --serial`. The exit
+//! status is the number of the answer.
 #![tactic(auto)]
 
 #[cfg(test)]
@@ -8,9 +9,11 @@ use io_edge::{HostShelf, HostSink};
 use scalapack_top::{journal_name, scalapack};
 use std::alloc::{AllocError, Global};
 use std::env::{self, Env};
+use std::io::ErrorKind;
 use std::process::ExitCode;
 
-// The words after the program's name. Where one of them, or all, can't be had as text, one empty word stands for them.
+// The words after the program's name. Where one of them, or all, can't be had as text, one empty word stands for them; want of memory is
+// an error of its own.
 fn words_of<R: Env + Alloc<A = Global>>(rt: &R) -> Result<Vec<String>, AllocError> {
     let alloc = rt.alloc();
     let mut words = Vec::new(alloc);
@@ -20,6 +23,7 @@ fn words_of<R: Env + Alloc<A = Global>>(rt: &R) -> Result<Vec<String>, AllocErro
                 words.push(word)?;
             }
         }
+        Err(e) if e.kind() == ErrorKind::OutOfMemory => return Err(AllocError),
         Err(_) => words.push(String::new(alloc))?,
     }
     Ok(words)

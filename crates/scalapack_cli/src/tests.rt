@@ -1,4 +1,6 @@
 //! The top call from words to bytes, over a shelf and sinks in memory.
+mod serial;
+
 use io_edge::{MemShelf, MemSink, Shelf};
 use scalapack_top::{Status, journal_name, scalapack};
 use std::alloc::{AllocError, Global};
@@ -71,6 +73,22 @@ fn runs_the_smallest_script(rt: HostRuntime) -> Result<(), Fail> {
         assert_eq!(rt; run.err.len(), 0);
         assert_eq!(rt; run.journal.as_slice(), JOURNAL);
     }
+    Ok(())
+}
+
+const AFTER_A_COMMENT: &[u8] = b"# x\ngrid g 1 1 0\nmatrix A g 1 1 1 1 0 0 a.txt\nprint A\n";
+
+const JOURNAL_AFTER_A_COMMENT: &[u8] =
+    b"0 feed 0 d3.0\n1 commit 3 end 0 0 0 plain\n2 take 0 d3.0\n3 commit 4 end 0 0 0 plain\n";
+
+#[test]
+fn counts_a_line_without_words(rt: HostRuntime) -> Result<(), Fail> {
+    let alloc = rt.alloc();
+    let mut shelf = shelf_of(alloc, AFTER_A_COMMENT, b"7\n")?;
+    let run = run_words(alloc, &["s.txt", "--journal", "j.txt"], &mut shelf, 100)?;
+    assert_eq!(rt; run.status, Status::Done);
+    assert_eq!(rt; run.out.as_slice(), b"A 1 1\n7\n".as_slice());
+    assert_eq!(rt; run.journal.as_slice(), JOURNAL_AFTER_A_COMMENT);
     Ok(())
 }
 
@@ -166,7 +184,40 @@ fn files_with_faults() -> [Case; 5] {
     ]
 }
 
-fn lines_with_faults() -> [Case; 6] {
+fn lines_not_run() -> [Case; 4] {
+    [
+        Case {
+            script: b"links 1\n",
+            matrix: b"",
+            status: refused(1, 18),
+            out: b"",
+            err: b"refused file 0 line 1 code 18\n",
+        },
+        Case {
+            script: b"links 1\nqr A\n",
+            matrix: b"",
+            status: refused(2, 1),
+            out: b"",
+            err: b"refused file 0 line 2 code 1\n",
+        },
+        Case {
+            script: b"grid g 1 1 1\nmatrix A g 1 1 1 1 0 0 b.txt\ntopology t\n",
+            matrix: b"",
+            status: refused(1, 18),
+            out: b"",
+            err: b"refused file 0 line 1 code 18\n",
+        },
+        Case {
+            script: b"grid g 1 1 0\nmatrix A g 1 1 1 1 0 0 a.txt\npgetrf 1 1 A 1 1 V\npivots V\n",
+            matrix: b"65537\n",
+            status: refused(3, 18),
+            out: b"",
+            err: b"refused file 0 line 3 code 18\n",
+        },
+    ]
+}
+
+fn lines_with_faults() -> [Case; 5] {
     [
         Case {
             script: b"print Z\n",
@@ -203,13 +254,6 @@ fn lines_with_faults() -> [Case; 6] {
             out: b"",
             err: b"refused file 0 line 4 code 6\n",
         },
-        Case {
-            script: b"links 1\n",
-            matrix: b"",
-            status: refused(1, 18),
-            out: b"",
-            err: b"refused file 0 line 1 code 18\n",
-        },
     ]
 }
 
@@ -241,13 +285,23 @@ fn refuses_lines(rt: HostRuntime) -> Result<(), Fail> {
     answers(&rt, &lines_with_faults())
 }
 
+// A line that the ranks can't run is refused after all rules of the script, and before its files are read.
+#[test]
+fn refuses_lines_that_are_not_run(rt: HostRuntime) -> Result<(), Fail> {
+    answers(&rt, &lines_not_run())
+}
+
 #[test]
 fn refuses_other_words(rt: HostRuntime) -> Result<(), Fail> {
     let alloc = rt.alloc();
-    let forms: [&[&str]; 6] = [
+    let forms: [&[&str]; 10] = [
         &[],
         &["s.txt", "--journal"],
-        &["--serial", "s.txt"],
+        &["--serial"],
+        &["--serial", "-s.txt"],
+        &["s.txt", "--serial", "--serial"],
+        &["s.txt", "t.txt"],
+        &["--serial", "s.txt", "--journal", "j.txt"],
         &["-s.txt"],
         &["s.txt", "--journal", ""],
         &["--journal", "j.txt", "s.txt", "t.txt"],

@@ -2,21 +2,23 @@
 use Rattle.std.proofs.Common.{◌≡◌, ℕ, suc, Bool, true, false, cond, ◌&&◌, List, [], ◌∷◌, ◌++◌, length, Option, Some, None, Result, Ok, Err, refl, sym, ap, subst, ◌∙◌}
 use Rattle.std.specs.Prelude.{ℤ, pos, negsuc, not, ◌==◌, ◌≢◌, nat_lt, nat_le}
 use Rattle.std.specs.Option.{option_or}
-use Rattle.std.proofs.lemmas.Bool.{and_parts}
+use Rattle.std.proofs.lemmas.Bool.{and_parts, and_from}
 use Rattle.run_data.specs.Matrix.{Matrix, tabulate}
 use Rattle.run_data.specs.Script.{Numbered, commands_of}
 use Rattle.run_data.specs.declared.command.Command.{Command}
 use Rattle.run_data.specs.declared.command.Command.TheVariants as c
 use Rattle.script_text.specs.declared.fault.Refused.{Refused}
+use Rattle.script_text.specs.declared.told.Told.{Told}
 use Rattle.script_text.specs.declared.kinds.Kind.{Kind}
 use Rattle.script_text.specs.declared.kinds.Kind.TheVariants.{NewName, GridName, MatrixName, ListName, ThingName, Number, FileName, Letter}
 use Rattle.script_text.specs.declared.kinds.CommandWord.{CommandWord}
 use Rattle.script_text.specs.declared.rules.TheConstants.{MAX_LINES}
 use Rattle.script_text.specs.declared.bounds.TheConstants.{MAX_RECORDS}
 use Rattle.script_text.specs.Lines.{has_items}
-use Rattle.script_text.specs.Kinds.{command_word, kinds_of, has_count, is_built}
+use Rattle.script_text.specs.Kinds.{command_word, kinds_of, takes_more, has_count}
 use Rattle.script_text.specs.Bounds.{bound}
-use Rattle.script_text.specs.Rules.{first_code, word_rules, words_code, rules}
+use Rattle.script_text.specs.Rules.{first_code, word_rules, words_code, more_rules, pgemm_line, ptrsm_line, pgetrf_line, pgetrs_line, pgemr2d_line, routine_rules, own_rules, rules}
+use Rattle.script_text.specs.Told.{told_by}
 use Rattle.script_text.specs.Commands.{command_of}
 use Rattle.script_text.specs.Script.{refused, command_code, form_code_of, form_code, rule_code, line_code, answer_by, line_answer, and_then, script_after, word_lines, bounded, script_of}
 use Rattle.script_text.specs.MatrixFile.{row_rules, by_code, too_few, refused_after, rows_of, number_in, matrix_or, matrix_of}
@@ -65,17 +67,60 @@ words_other cs line [] words = refl
 words_other cs line (kind ∷ kinds) [] = refl
 words_other cs line (kind ∷ kinds) (word ∷ words) = or_other (first_code (word_rules cs line kind word)) _ (first_other (word_rules cs line kind word) (word_other cs line kind word)) (words_other cs line kinds words)
 
-rules_other : (cs : List Numbered) (line : ℕ) (command : Command) → are_others (rules cs line command) ≡ true
-rules_other cs line (c.Grid name p q f) = refl
-rules_other cs line (c.Matrix name grid m n mb nb rsrc csrc file) = refl
-rules_other cs line (c.Print name) = refl
-rules_other cs line command = refl
+others-append : (xs ys : List (ℤ × Bool)) → are_others xs ≡ true → are_others ys ≡ true → are_others (xs ++ ys) ≡ true
+others-append [] ys h k = k
+others-append (x ∷ xs) ys h k = (let parts = and_parts (is_other (Some x.0)) (are_others xs) h in and_from (is_other (Some x.0)) (are_others (xs ++ ys)) parts.0 (others-append xs ys parts.1 k))
+
+pgemm_other : (cs : List Numbered) (line : ℕ) (command : Command) → are_others (pgemm_line cs line command) ≡ true
+pgemm_other cs line (c.Pgemm transa transb m n k alpha a ia ja b ib jb beta x ic jc) = refl
+pgemm_other cs line command = refl
+
+ptrsm_other : (cs : List Numbered) (line : ℕ) (command : Command) → are_others (ptrsm_line cs line command) ≡ true
+ptrsm_other cs line (c.Ptrsm side uplo transa diag m n alpha a ia ja b ib jb) = refl
+ptrsm_other cs line command = refl
+
+pgetrf_other : (cs : List Numbered) (line : ℕ) (command : Command) → are_others (pgetrf_line cs line command) ≡ true
+pgetrf_other cs line (c.Pgetrf m n a ia ja v) = refl
+pgetrf_other cs line command = refl
+
+pgetrs_other : (cs : List Numbered) (line : ℕ) (command : Command) → are_others (pgetrs_line cs line command) ≡ true
+pgetrs_other cs line (c.Pgetrs trans n nrhs a ia ja v b ib jb) = refl
+pgetrs_other cs line command = refl
+
+pgemr2d_other : (cs : List Numbered) (line : ℕ) (command : Command) → are_others (pgemr2d_line cs line command) ≡ true
+pgemr2d_other cs line (c.Pgemr2d m n a ia ja b ib jb ctxt) = refl
+pgemr2d_other cs line command = refl
+
+routines_other : (cs : List Numbered) (line : ℕ) (command : Command) → are_others (routine_rules cs line command) ≡ true
+routines_other cs line command =
+    let one = pgemm_line cs line command in
+    let two = ptrsm_line cs line command in
+    let three = pgetrf_line cs line command in
+    let four = pgetrs_line cs line command in
+    others-append (one ++ two ++ three ++ four) (pgemr2d_line cs line command)
+    (others-append (one ++ two ++ three) four (others-append (one ++ two) three (others-append one two (pgemm_other cs line command) (ptrsm_other cs line command)) (pgetrf_other cs line command)) (pgetrs_other cs line command))
+    (pgemr2d_other cs line command)
+
+own_other : (told : Told) (cs : List Numbered) (line : ℕ) (command : Command) → are_others (own_rules told cs line command) ≡ true
+own_other told cs line (c.Grid name p q f) = refl
+own_other told cs line (c.Matrix name grid m n mb nb rsrc csrc file) = refl
+own_other told cs line (c.Pgetrf m n a ia ja v) = refl
+own_other told cs line (c.Print name) = refl
+own_other told cs line (c.Topology kind) = refl
+own_other told cs line (c.Links n) = refl
+own_other told cs line (c.Order numbers) = refl
+own_other told cs line (c.Lose at rank) = refl
+own_other told cs line command = refl
+
+rules_other : (told : Told) (cs : List Numbered) (line : ℕ) (command : Command) → are_others (rules told cs line command) ≡ true
+rules_other told cs line command = others-append (routine_rules cs line command) (own_rules told cs line command) (routines_other cs line command) (own_other told cs line command)
 
 command_other : (script : List (Option Command)) (o : Option CommandWord) (others : List (List ℕ)) → is_other (command_code script o others) ≡ true
 command_other script None others = refl
 command_other script (Some w) others =
-    or_other (first_code ((pos 2, has_count w (length others)) ∷ (pos 18, is_built w) ∷ [])) _ (first_other ((pos 2, has_count w (length others)) ∷ (pos 18, is_built w) ∷ []) refl)
-    (words_other (commands_of script) (suc (length script)) (kinds_of w) others)
+    or_other (first_code ((pos 2, has_count w (length others)) ∷ [])) _ (first_other ((pos 2, has_count w (length others)) ∷ []) refl)
+    (or_other (words_code (commands_of script) (suc (length script)) (kinds_of w) others) _ (words_other (commands_of script) (suc (length script)) (kinds_of w) others)
+    (first_other (more_rules (takes_more w) others) refl))
 
 form_other : (script : List (Option Command)) (words : List (List ℕ)) → is_other (form_code script words) ≡ true
 unfolding form_code
@@ -85,19 +130,19 @@ form_other script words = or_other (first_code ((pos 11, nat_lt (length script) 
     of_words [] = refl
     of_words (first ∷ others) = command_other script (command_word first) others
 
-rule_other : (script : List (Option Command)) (command : Option Command) → is_other (rule_code script command) ≡ true
+rule_other : (told : Told) (script : List (Option Command)) (command : Option Command) → is_other (rule_code told script command) ≡ true
 unfolding rule_code
-rule_other script None = refl
-rule_other script (Some command) = first_other (rules (commands_of script) (suc (length script)) command) (rules_other (commands_of script) (suc (length script)) command)
+rule_other told script None = refl
+rule_other told script (Some command) = first_other (rules told (commands_of script) (suc (length script)) command) (rules_other told (commands_of script) (suc (length script)) command)
 
-line_other : (script : List (Option Command)) (words : List (List ℕ)) → is_other (line_code script words) ≡ true
+line_other : (told : Told) (script : List (Option Command)) (words : List (List ℕ)) → is_other (line_code told script words) ≡ true
 unfolding line_code
-line_other script words = or_other (form_code script words) _ (form_other script words) (rule_other script (command_of words))
+line_other told script words = or_other (form_code script words) _ (form_other script words) (rule_other told script (command_of words))
 
 -- ---- a script
-line_refused : (script : List (Option Command)) (words : List (List ℕ)) (r : Refused) → line_answer script words ≡ Err r → is_other (Some r.code) ≡ true
+line_refused : (told : Told) (script : List (Option Command)) (words : List (List ℕ)) (r : Refused) → line_answer told script words ≡ Err r → is_other (Some r.code) ≡ true
 unfolding line_answer
-line_refused script words r e = by_code (line_code script words) (line_other script words) e
+line_refused told script words r e = by_code (line_code told script words) (line_other told script words) e
   where
     by_code : (o : Option ℤ) → is_other o ≡ true → answer_by script words o ≡ Err r → is_other (Some r.code) ≡ true
     by_code None h e = absurd cc
@@ -109,11 +154,11 @@ then_refused : (a : Result (Option Command) Refused) (next : Option Command → 
 then_refused (Ok command) next r h k e = k command e
 then_refused (Err x) next r h k e = let q : x ≡ r = cc in subst (λ (y : Refused). is_other (Some y.code) ≡ true) q (h x refl)
 
-lines_refused : (script : List (Option Command)) (lines : List (List (List ℕ))) (r : Refused) → script_after script lines ≡ Err r → is_other (Some r.code) ≡ true
+lines_refused : (told : Told) (script : List (Option Command)) (lines : List (List (List ℕ))) (r : Refused) → script_after told script lines ≡ Err r → is_other (Some r.code) ≡ true
 unfolding script_after
-lines_refused script [] r e = absurd cc
-lines_refused script (words ∷ lines) r e =
-    then_refused (line_answer script words) (λ command. script_after (script ++ command ∷ []) lines) r (λ x o. line_refused script words x o) (λ command o. lines_refused (script ++ command ∷ []) lines r o) e
+lines_refused told script [] r e = absurd cc
+lines_refused told script (words ∷ lines) r e =
+    then_refused (line_answer told script words) (λ command. script_after told (script ++ command ∷ []) lines) r (λ x o. line_refused told script words x o) (λ command o. lines_refused told (script ++ command ∷ []) lines r o) e
 
 bound_refused : (script : List (Option Command)) (r : Refused) → bounded script ≡ Err r → is_other (Some r.code) ≡ true
 unfolding bounded
@@ -125,11 +170,11 @@ bound_refused script r e = by_test (nat_le (bound (commands_of script)) MAX_RECO
 
 script_refused : (bytes : List ℕ) (r : Refused) → script_of bytes ≡ Err r → is_other (Some r.code) ≡ true
 unfolding script_of
-script_refused bytes r e = by_lines (script_after [] (word_lines bytes)) refl e
+script_refused bytes r e = by_lines (script_after (told_by (word_lines bytes)) [] (word_lines bytes)) refl e
   where
-    by_lines : (a : Result (List (Option Command)) Refused) → script_after [] (word_lines bytes) ≡ a → and_then a bounded ≡ Err r → is_other (Some r.code) ≡ true
+    by_lines : (a : Result (List (Option Command)) Refused) → script_after (told_by (word_lines bytes)) [] (word_lines bytes) ≡ a → and_then a bounded ≡ Err r → is_other (Some r.code) ≡ true
     by_lines (Ok script) o e = bound_refused script r e
-    by_lines (Err x) o e = let q : x ≡ r = cc in subst (λ (y : Refused). is_other (Some y.code) ≡ true) q (lines_refused [] (word_lines bytes) x o)
+    by_lines (Err x) o e = let q : x ≡ r = cc in subst (λ (y : Refused). is_other (Some y.code) ≡ true) q (lines_refused (told_by (word_lines bytes)) [] (word_lines bytes) x o)
 
 pub code_of_script : (bytes : List ℕ) (r : Refused) → script_of bytes ≡ Err r → r.code ≢ pos 12
 code_of_script bytes r e = not_twelve r.code (script_refused bytes r e)

@@ -1,5 +1,5 @@
 -- The files of a script, one line after another.
-use Rattle.std.proofs.Common.{◌≡◌, ℕ, suc, ◌+◌, ◌-◌, ◌<◌, ◌≤◌, true, List, [], ◌∷◌, length, get_or, take, drop, Option, Some, None, Result, Ok, Err, refl, sym, ap, subst, ◌∙◌, arith, rules, inl, inr, drop-cons, add-one}
+use Rattle.std.proofs.Common.{◌≡◌, ℕ, suc, ◌+◌, ◌-◌, ◌<◌, ◌≤◌, List, [], ◌∷◌, length, get_or, take, drop, Option, Some, None, Result, Ok, Err, refl, sym, ap, subst, ◌∙◌, arith, rules, inl, inr, drop-cons, add-one}
 use Rattle.std.specs.Prelude.{MatchOption, ⊤, unwrap_or, pos}
 use Rattle.std.specs.Option.{option_map}
 use Rattle.std.specs.FinMap as map
@@ -17,12 +17,14 @@ use Rattle.run_data.proofs.Lines.{command_at-before, command_at_found, command_a
 use Rattle.rank_machine.specs.Scripts.{Matrices, file_of}
 use Rattle.script_text.specs.declared.kinds.Kind.TheVariants.{NewName, GridName, FileName}
 use Rattle.script_text.specs.Rules.{first_code, word_rules}
+use Rattle.script_text.specs.declared.told.Told.{Told}
 use Rattle.script_text.specs.Accepted.{broken_by, names_code, IsAccepted}
+use Rattle.script_text.specs.Told.{told_without_losses}
 use Rattle.script_text.proofs.Keeping.{or_none, first_none}
 use Rattle.scalapack_top.specs.declared.status.Status.{Status}
 use Rattle.scalapack_top.specs.Input.{◌>>=◌, files_from}
 use Rattle.scalapack_top.specs.Causes.{FailsAs, IsStep}
-use Rattle.scalapack_top.specs.Read.{line_due, after_line, files_read, IsPart, IsPut, IsAdded, NamesText, HasFile, FileFits, IsReady}
+use Rattle.scalapack_top.specs.Read.{line_due, after_line, files_read, IsPart, IsPut, IsAdded, NamesText, HasFile, FileFits, HasFiles}
 use Rattle.scalapack_top.proofs.Steps.{later_caused, fails_on, then_is}
 
 -- ---- the FILE of an accepted matrix line is text
@@ -33,16 +35,15 @@ file_is_text cs line name grid file e =
     let three = or_none (first_code (word_rules cs line FileName file)) None two.1 in
     IsUtf8-from_is_utf8 file (first_none (pos 4) (is_utf8 file) [] three.0).0
 
-unbroken_text : (script : List (Option Command)) (command : Command) → broken_by script command ≡ None → NamesText command
+unbroken_text : (told : Told) (script : List (Option Command)) (command : Command) → broken_by told script command ≡ None → NamesText command
 unfolding broken_by
-unbroken_text script (c.Matrix name grid m n mb nb rsrc csrc file) e =
-    let read = or_none (first_code ((pos 18, true) ∷ [])) _ e in
-    let names = or_none (names_code (commands_of script) (suc (length script)) ((NewName, name) ∷ (GridName, grid) ∷ (FileName, file) ∷ [])) _ read.1 in
+unbroken_text told script (c.Matrix name grid m n mb nb rsrc csrc file) e =
+    let names = or_none (names_code (commands_of script) (suc (length script)) ((NewName, name) ∷ (GridName, grid) ∷ (FileName, file) ∷ [])) _ e in
     file_is_text (commands_of script) (suc (length script)) name grid file names.0
-unbroken_text script command e = tt
+unbroken_text told script command e = tt
 
 pub names_text : (script : List (Option Command)) → IsAccepted script → (i : ℕ) (command : Command) → i < length script → Some command ≡ get_or script i (Some command) → NamesText command
-names_text script a i command lt e = unbroken_text (take i script) command (a.lines.kept i command (slice_get_read script (length script) i (Some command) refl lt e))
+names_text script a i command lt e = unbroken_text (told_without_losses (commands_of script)) (take i script) command (a.lines.kept i command (slice_get_read script (length script) i (Some command) refl lt e))
 
 -- ---- files by line
 put_here : (files : Matrices) (line : ℕ) (a : Matrix) → map.get (map.insert files line a) line ≡ Some a
@@ -193,8 +194,8 @@ module _ (script : List (Option Command)) (i : ℕ) (t now : Option Held) (f f' 
       came (Some first) None g = absurd g
       came (Some first) (Some held) g = g ∙ ap (λ ls. files_from (commands_from (suc i) ls) held files) (drop_all script i le)
 
-  pub all_ready : IsAccepted script → IsReady script files
-  all_ready a = record { accepted = a; file = fit }
+  pub all_there : HasFiles script files
+  all_there = fit
     where
       fit : (line : ℕ) → FileFits (command_at (commands_of script) line) files line
       fit line = elim (cases_lt line (suc i)) [

@@ -4,3 +4,6 @@ pub mod Files
 pub mod Answered
 pub mod Named
 pub mod Runnable
+pub mod SerialPivots
+pub mod SerialReady
+pub mod SerialRun

@@ -1,4 +1,4 @@
--- The names that prints name are text.
+-- The names of matrices and of pivot lists are text.
 use Rattle.std.proofs.Common.{◌≡◌, ℕ, zero, suc, ◌<◌, Bool, true, false, cond, ◌&&◌, List, [], ◌∷◌, Option, Some, None, refl, sym, ap, subst, ◌∙◌, arith, ◌⊎◌, inl, inr, ⊎_elim}
 use Rattle.std.specs.Prelude.{nat_le, nat_lt, length, Contains}
 use Rattle.std.specs.Char.{is_ascii_alphabetic}
@@ -6,7 +6,8 @@ use Rattle.std.specs.List.{list_all}
 use Rattle.std.specs.Str.{bytes_eq, IsUtf8, IsAscii}
 use Rattle.std.proofs.lemmas.Str.{IsUtf8-from_ascii}
 use Rattle.std.proofs.lemmas.Slice.Eq.{bytes_eq-Decides}
-use Rattle.std.proofs.lemmas.Bool.{and_parts}
+use Rattle.std.proofs.lemmas.Bool.{and_parts, false≢true}
+use Rattle.std.proofs.lemmas.Option.{same_Some}
 use Rattle.std.proofs.lemmas.Bool.Decides.{nat_tests}
 use Rattle.run_data.specs.declared.command.Command.{Command}
 use Rattle.run_data.specs.declared.command.Command.TheVariants as c
@@ -14,8 +15,9 @@ use Rattle.run_data.specs.Script.{Numbered, commands_of, command_at, name_made, 
 use Rattle.run_data.specs.Script as names
 use Rattle.run_records.proofs.LineJobs.{Contains-head, Contains-later}
 use Rattle.script_text.specs.Names.{is_name_byte, is_name}
-use Rattle.script_text.specs.Accepted.{IsAccepted}
-use Rattle.script_text.proofs.Limits.{MeansMatrix, print_kept, NameIsNew, matrix_name_kept}
+use Rattle.script_text.specs.Rules.{command_on, maker_command, is_matrix_line, is_list_line}
+use Rattle.script_text.specs.Accepted.{KeepsRules}
+use Rattle.script_text.proofs.Limits.{print_kept, NameIsNew, matrix_name_kept, list_name_kept}
 use Rattle.script_run.proofs.AcceptedCommands.{there-all}
 
 -- ---- a name is text
@@ -76,15 +78,50 @@ made_under (n ∷ ns) upto name before line e =
 pub maker-named : (ns : List Numbered) (upto : ℕ) (name : List ℕ) (line : ℕ) → maker ns upto name ≡ Some line → MadeUnder ns name line
 maker-named ns upto name line e = ⊎_elim (λ (m : MadeUnder ns name line). m) (λ (h : ◌≡◌ {A = Option ℕ} None (Some line)). absurd cc) (made_under ns upto name None line e)
 
--- ---- a print's name
-pub print-named : (script : List (Option Command)) (line : ℕ) (name : List ℕ) → IsAccepted script → command_at (commands_of script) line ≡ Some (c.Print name) → IsUtf8 name
-print-named script line name accepted e =
-    let ns : List Numbered = commands_of script in
-    let m : MeansMatrix ns line name = (print_kept script line name accepted.lines e).means in
-    let under : MadeUnder ns name m.at = maker-named ns line name m.at m.maker_is in
-    let is : command_at ns m.at ≡ Some under.by.command = ap (command_at ns) (sym under.on) ∙ there-all script under.by under.among in
-    let same : under.by.command ≡ c.Matrix m.made m.grid m.m m.n m.mb m.nb m.rsrc m.csrc m.file = cc in
-    let equal : bytes_eq m.made name ≡ true = sym (ap (λ (command : Command). names.is_name (name_made command) name) same) ∙ under.named in
-    let one : m.made ≡ name = (bytes_eq-Decides m.made name).0 equal in
-    let new : NameIsNew ns m.at m.made = matrix_name_kept script m.at m.made m.grid m.m m.n m.mb m.nb m.rsrc m.csrc m.file accepted.lines m.matrix in
-    subst IsUtf8 one (name_is_text m.made new.form)
+-- ---- the name of a matrix or of a pivot list
+module _ (script : List (Option Command)) (line : ℕ) (name : List ℕ) (keeps : KeepsRules script) where
+  -- what a name means was made by a command under a new name
+  made-named : (at : ℕ) (command : Command) (made : List ℕ) → maker (commands_of script) line name ≡ Some at → command_at (commands_of script) at ≡ Some command → name_made command ≡ Some made
+      → NameIsNew (commands_of script) at made → IsUtf8 name
+  made-named at command made means e m new =
+      let ns : List Numbered = commands_of script in
+      let under : MadeUnder ns name at = maker-named ns line name at means in
+      let is : command_at ns at ≡ Some under.by.command = ap (command_at ns) (sym under.on) ∙ there-all script under.by under.among in
+      let same : under.by.command ≡ command = same_Some under.by.command command (sym is ∙ e) in
+      let equal : bytes_eq made name ≡ true = sym (ap (λ (command : Command). names.is_name (name_made command) name) same ∙ ap (λ (o : Option (List ℕ)). names.is_name o name) m) ∙ under.named in
+      let one : made ≡ name = (bytes_eq-Decides made name).0 equal in
+      subst IsUtf8 one (name_is_text made new.form)
+
+  pub matrix-named : is_matrix_line (maker_command (commands_of script) line name) ≡ true → IsUtf8 name
+  matrix-named h = by_maker (maker (commands_of script) line name) refl h
+    where
+      by_command : (at : ℕ) (o : Option Command) → maker (commands_of script) line name ≡ Some at → command_at (commands_of script) at ≡ o → is_matrix_line o ≡ true → IsUtf8 name
+      by_command at (Some (c.Matrix made grid m n mb nb rsrc csrc file)) means e h =
+          made-named at (c.Matrix made grid m n mb nb rsrc csrc file) made means e refl (matrix_name_kept script at made grid m n mb nb rsrc csrc file keeps e)
+      by_command at None means e h = absurd (false≢true h)
+      by_command at (Some command) means e h = absurd (false≢true h)
+
+      by_maker : (o : Option ℕ) → maker (commands_of script) line name ≡ o → is_matrix_line (command_on (commands_of script) o) ≡ true → IsUtf8 name
+      by_maker None means h = absurd (false≢true h)
+      by_maker (Some at) means h = by_command at (command_at (commands_of script) at) means refl h
+
+  pub list-named : is_list_line (maker_command (commands_of script) line name) ≡ true → IsUtf8 name
+  list-named h = by_maker (maker (commands_of script) line name) refl h
+    where
+      by_command : (at : ℕ) (o : Option Command) → maker (commands_of script) line name ≡ Some at → command_at (commands_of script) at ≡ o → is_list_line o ≡ true → IsUtf8 name
+      by_command at (Some (c.Pgetrf m n a ia ja v)) means e h = made-named at (c.Pgetrf m n a ia ja v) v means e refl (list_name_kept script at m n a ia ja v keeps e)
+      by_command at None means e h = absurd (false≢true h)
+      by_command at (Some command) means e h = absurd (false≢true h)
+
+      by_maker : (o : Option ℕ) → maker (commands_of script) line name ≡ o → is_list_line (command_on (commands_of script) o) ≡ true → IsUtf8 name
+      by_maker None means h = absurd (false≢true h)
+      by_maker (Some at) means h = by_command at (command_at (commands_of script) at) means refl h
+
+-- what a print names is a matrix
+pub print-matrix : (script : List (Option Command)) (line : ℕ) (name : List ℕ) → KeepsRules script → command_at (commands_of script) line ≡ Some (c.Print name) → is_matrix_line (maker_command (commands_of script) line name) ≡ true
+print-matrix script line name keeps e =
+    let means = (print_kept script line name keeps e).means in
+    ap (λ o. is_matrix_line (command_on (commands_of script) o)) means.maker_is ∙ ap is_matrix_line means.matrix
+
+pub print-named : (script : List (Option Command)) (line : ℕ) (name : List ℕ) → KeepsRules script → command_at (commands_of script) line ≡ Some (c.Print name) → IsUtf8 name
+print-named script line name keeps e = matrix-named script line name keeps (print-matrix script line name keeps e)

@@ -23,11 +23,12 @@ use Rattle.script_run.proofs.AcceptedCommands.{accepted-commands, accepted-rise}
 use Rattle.script_run.proofs.AcceptedGrids.{accepted-grids}
 use Rattle.script_run.proofs.AcceptedMatrices.{matrix_line-from, FilesFit, accepted-shaped}
 use Rattle.script_run.proofs.AcceptedPlain.{accepted-plain}
+use Rattle.scalapack_top.specs.declared.words.Machine.TheVariants as machine
 use Rattle.scalapack_top.specs.Read.{HasFile, FileFits, IsReady}
 use Rattle.scalapack_top.specs.Run.{IsWholeRun}
 use Rattle.scalapack_top.proofs.Named.{print-named}
 
-module _ (script : List (Option Command)) (files : Matrices) (ready : IsReady script files) where
+module _ (script : List (Option Command)) (files : Matrices) (ready : IsReady machine.Ranks script files) where
   -- the file of a matrix line
   file_of_line : (line : ℕ) (name grid : List ℕ) (m n mb nb rsrc csrc : ℕ) (file : List ℕ) → command_at (commands_of script) line ≡ Some (c.Matrix name grid m n mb nb rsrc csrc file) → HasFile m n files line
   file_of_line line name grid m n mb nb rsrc csrc file e = subst (λ o. FileFits o files line) e (ready.file line)
@@ -51,9 +52,9 @@ module _ (script : List (Option Command)) (files : Matrices) (ready : IsReady sc
   pub can_run : run.IsRunnable script files
   can_run = record {
     grids = accepted-grids script files ready.accepted;
-    plain = accepted-plain script files ready.accepted;
-    commands = accepted-commands script ready.accepted;
-    named = λ line name e. print-named script line name ready.accepted e;
+    plain = accepted-plain script files ready.accepted ready.runs;
+    commands = accepted-commands script ready.accepted ready.runs;
+    named = λ line name e. print-named script line name ready.accepted.lines e;
     has_files = has_file;
   }
 

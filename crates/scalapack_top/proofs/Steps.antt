@@ -9,6 +9,7 @@ use Rattle.run_data.specs.declared.command.Command.TheVariants as c
 use Rattle.rank_machine.specs.Scripts.{Matrices}
 use Rattle.scalapack_top.specs.declared.status.Status.{Status}
 use Rattle.scalapack_top.specs.declared.status.Status.TheVariants as status
+use Rattle.scalapack_top.specs.declared.words.Machine.{Machine}
 use Rattle.scalapack_top.specs.declared.input.Prepared.{Prepared}
 use Rattle.scalapack_top.specs.Input.{◌>>=◌, Input, after_read, script_from, matrix_from, file_then, input_from}
 use Rattle.scalapack_top.specs.Causes.{FailsAs, IsCaused, IsStep}
@@ -46,10 +47,10 @@ abbrev pub rest_of : List (Option Command) → Held → Result Input Status
 rest_of script held = files_read script (after_read held) >>= λ files. Ok (record { script = script; files = files })
 
 -- the script was not read
-pub input_fails : (name : List ℕ) (t t' : Option Held) (f f' l l' : ℕ) (e : Status) → IsStep (λ (s : List (Option Command)). s) (script_from name) after_read t t' f f' l l' (Err e)
-    → IsPart {X = Prepared} input_read (input_from name) t f f' l l' (Err e)
+pub input_fails : (m : Machine) (name : List ℕ) (t t' : Option Held) (f f' l l' : ℕ) (e : Status) → IsStep (λ (s : List (Option Command)). s) (script_from m name) after_read t t' f f' l l' (Err e)
+    → IsPart {X = Prepared} input_read (input_from m name) t f f' l l' (Err e)
 unfolding input_from
-input_fails name t t' f f' l l' e h = record {
+input_fails m name t t' f f' l l' e h = record {
   comes = came t h.comes;
   failure = h.failure;
   faults_stay = h.faults_stay;
@@ -57,17 +58,17 @@ input_fails name t t' f f' l l' e h = record {
   caused = h.caused;
 }
   where
-    came : (t : Option Held) → MatchOption t ⊤ (λ held. FailsAs e (script_from name held)) → MatchOption t ⊤ (λ held. FailsAs e (script_from name held >>= λ s. rest_of s held))
+    came : (t : Option Held) → MatchOption t ⊤ (λ held. FailsAs e (script_from m name held)) → MatchOption t ⊤ (λ held. FailsAs e (script_from m name held >>= λ s. rest_of s held))
     came None c = tt
-    came (Some held) c = fails_on e (script_from name held) (λ s. rest_of s held) c
+    came (Some held) c = fails_on e (script_from m name held) (λ s. rest_of s held) c
 
-module _ (name : List ℕ) (script : List (Option Command)) (t t1 : Option Held) (f f1 f' l l1 l' : ℕ) (one : IsStep (λ (s : List (Option Command)). s) (script_from name) after_read t t1 f f1 l l1 (Ok script)) where
-  after_script : (held : Held) → script_from name held ≡ Ok script → input_from name held ≡ rest_of script held
+module _ (m : Machine) (name : List ℕ) (script : List (Option Command)) (t t1 : Option Held) (f f1 f' l l1 l' : ℕ) (one : IsStep (λ (s : List (Option Command)). s) (script_from m name) after_read t t1 f f1 l l1 (Ok script)) where
+  after_script : (held : Held) → script_from m name held ≡ Ok script → input_from m name held ≡ rest_of script held
   unfolding input_from
   after_script held e = ap (λ r. r >>= λ s. rest_of s held) e
 
   -- a file was not read
-  pub input_then_fails : (e : Status) → IsPart (λ (m : Matrices). m) (files_read script) t1 f1 f' l1 l' (Err e) → IsPart {X = Prepared} input_read (input_from name) t f f' l l' (Err e)
+  pub input_then_fails : (e : Status) → IsPart (λ (x : Matrices). x) (files_read script) t1 f1 f' l1 l' (Err e) → IsPart {X = Prepared} input_read (input_from m name) t f f' l l' (Err e)
   input_then_fails e two = record {
     comes = came t one.comes one.leaves;
     failure = two.failure;
@@ -76,14 +77,14 @@ module _ (name : List ℕ) (script : List (Option Command)) (t t1 : Option Held)
     caused = later_caused f f1 f' l l1 l' e one.faults_stay one.longs_stay two.caused;
   }
     where
-      came : (t : Option Held) → MatchOption t ⊤ (λ held. script_from name held ≡ Ok script) → t1 ≡ option_map after_read t → MatchOption t ⊤ (λ held. FailsAs e (input_from name held))
+      came : (t : Option Held) → MatchOption t ⊤ (λ held. script_from m name held ≡ Ok script) → t1 ≡ option_map after_read t → MatchOption t ⊤ (λ held. FailsAs e (input_from m name held))
       came None c d = tt
       came (Some held) c d =
           let there : FailsAs e (files_read script (after_read held)) = subst (λ u. MatchOption u ⊤ (λ h. FailsAs e (files_read script h))) d two.comes in
           subst (FailsAs e) (sym (after_script held c)) (fails_on e (files_read script (after_read held)) (λ files. Ok (record { script = script; files = files })) there)
 
   -- all was read
-  pub input_ok : (files : Matrices) → IsPart (λ (m : Matrices). m) (files_read script) t1 f1 f' l1 l' (Ok files) → IsPart {X = Prepared} input_read (input_from name) t f f' l l' (Ok (record { script = script; files = files }))
+  pub input_ok : (files : Matrices) → IsPart (λ (x : Matrices). x) (files_read script) t1 f1 f' l1 l' (Ok files) → IsPart {X = Prepared} input_read (input_from m name) t f f' l l' (Ok (record { script = script; files = files }))
   input_ok files two = record {
     comes = came t one.comes one.leaves;
     failure = tt;
@@ -92,7 +93,7 @@ module _ (name : List ℕ) (script : List (Option Command)) (t t1 : Option Held)
     caused = tt;
   }
     where
-      came : (t : Option Held) → MatchOption t ⊤ (λ held. script_from name held ≡ Ok script) → t1 ≡ option_map after_read t → MatchOption t ⊤ (λ held. input_from name held ≡ Ok (record { script = script; files = files }))
+      came : (t : Option Held) → MatchOption t ⊤ (λ held. script_from m name held ≡ Ok script) → t1 ≡ option_map after_read t → MatchOption t ⊤ (λ held. input_from m name held ≡ Ok (record { script = script; files = files }))
       came None c d = tt
       came (Some held) c d =
           let there : files_read script (after_read held) ≡ Ok files = subst (λ u. MatchOption u ⊤ (λ h. files_read script h ≡ Ok files)) d two.comes in

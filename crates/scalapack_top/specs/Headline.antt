@@ -1,8 +1,13 @@
 -- What the top call promises: its table of answers.
 use Rattle.std.specs.Prelude.{◌≡◌, ◌≢◌, ℕ, ◌≤◌, List, [], Option, None, Ok, Err, MatchOption, ⊤}
 use Rattle.io_edge.specs.Shelf.{Held}
+use Rattle.run_data.specs.Script.{commands_of}
+use Rattle.rank_machine.specs.Scripts.{file_of}
+use Rattle.serial_model.specs.Serial.{serial_text}
 use Rattle.scalapack_top.specs.declared.status.Status.{Status}
 use Rattle.scalapack_top.specs.declared.status.Status.TheVariants as status
+use Rattle.scalapack_top.specs.declared.words.Machine.{Machine}
+use Rattle.scalapack_top.specs.declared.words.Machine.TheVariants as machine
 use Rattle.scalapack_top.specs.Words.{script_name}
 use Rattle.scalapack_top.specs.Input.{Input, input_of}
 use Rattle.scalapack_top.specs.Status.{error_text}
@@ -14,24 +19,36 @@ use Rattle.scalapack_top.specs.Run.{IsWholeRun}
 abbrev pub IsEnd : Status → Output → Type 0
 IsEnd answer output = output ≡ record { out = []; err = error_text answer; journal = [] }
 
--- a whole run of an input, and nothing on err
+-- a whole run of an input on the ranks, and nothing on err
 pub record IsDone (input : Input) (output : Output) : Type 0 where
   pub run : IsWholeRun input.script input.files output.out output.journal
   pub silent : output.err ≡ []
 
--- What an answer says, for the words and a shelf that tells its files or not, and what is to be written then.
-abbrev pub IsAnswer : List (List ℕ) → Option Held → Status → Output → Type 0
+-- the text of the serial run of an input, and nothing on err and in the journal
+pub record IsDoneSerially (input : Input) (output : Output) : Type 0 where
+  pub text : output.out ≡ serial_text (file_of input.files) (commands_of input.script)
+  pub silent : output.err ≡ []
+  pub no_journal : output.journal ≡ []
+
+-- the run of an input by this machine
+abbrev pub IsDoneBy : Machine → Input → Output → Type 0
+IsDoneBy machine.Ranks input output = IsDone input output
+IsDoneBy machine.Serial input output = IsDoneSerially input output
+
+-- What an answer says, for what runs the script, the words and a shelf that tells its files or not, and what is to be written then.
+abbrev pub IsAnswer : Machine → List (List ℕ) → Option Held → Status → Output → Type 0
 -- a whole run of the input that the words and the files give
-IsAnswer words told status.Done output = (script_name words ≢ None) × ((input : Input) × MatchOption told ⊤ (λ held. input_of words held ≡ Ok input) × IsDone input output)
+IsAnswer m words told status.Done output = (script_name words ≢ None) × ((input : Input) × MatchOption told ⊤ (λ held. input_of words held ≡ Ok input) × IsDoneBy m input output)
 -- the words are of no form
-IsAnswer words told status.Usage output = (script_name words ≡ None) × IsEnd status.Usage output
+IsAnswer m words told status.Usage output = (script_name words ≡ None) × IsEnd status.Usage output
 -- the files give this fault, or this refusal, first
-IsAnswer words told (status.ReadFault file) output = (script_name words ≢ None) × MatchOption told ⊤ (λ held. input_of words held ≡ Err (status.ReadFault file)) × IsEnd (status.ReadFault file) output
-IsAnswer words told (status.Refused file line code) output = (script_name words ≢ None) × MatchOption told ⊤ (λ held. input_of words held ≡ Err (status.Refused file line code)) × IsEnd (status.Refused file line code) output
+IsAnswer m words told (status.ReadFault file) output = (script_name words ≢ None) × MatchOption told ⊤ (λ held. input_of words held ≡ Err (status.ReadFault file)) × IsEnd (status.ReadFault file) output
+IsAnswer m words told (status.Refused file line code) output =
+    (script_name words ≢ None) × MatchOption told ⊤ (λ held. input_of words held ≡ Err (status.Refused file line code)) × IsEnd (status.Refused file line code) output
 -- free, but not for words of no form
-IsAnswer words told status.NoMemory output = (script_name words ≢ None) × IsEnd status.NoMemory output
+IsAnswer m words told status.NoMemory output = (script_name words ≢ None) × IsEnd status.NoMemory output
 -- only the writes can answer this
-IsAnswer words told status.WriteFault output = ⊥
+IsAnswer m words told status.WriteFault output = ⊥
 
 -- what the work did to the shelf: its counts never fall, and a fault has raised its own
 pub record HasCause (faults faults' longs longs' : ℕ) (answer : Status) : Type 0 where

@@ -13,9 +13,12 @@ use Rattle.rank_machine.specs.Scripts.{Matrices}
 use Rattle.script_text.specs.declared.fault.Refused.{Refused}
 use Rattle.script_text.specs.Script.{script_of}
 use Rattle.script_text.specs.MatrixFile.{matrix_of}
+use Rattle.script_text.specs.Runs.{first_unrunnable}
 use Rattle.scalapack_top.specs.declared.status.Status.{Status}
 use Rattle.scalapack_top.specs.declared.status.Status.TheVariants as status
-use Rattle.scalapack_top.specs.Words.{script_name}
+use Rattle.scalapack_top.specs.declared.words.Machine.{Machine}
+use Rattle.scalapack_top.specs.declared.words.Machine.TheVariants as machine
+use Rattle.scalapack_top.specs.Words.{machine_of, script_name}
 
 -- the first status that ends the work ends the whole
 infixl 10 ◌>>=◌
@@ -48,9 +51,23 @@ of_text (Err r) = Err (status.Refused r.file r.line r.code)
 abbrev pub after_read : Held → Held
 after_read held = record held { calls = counted held.calls }
 
--- the script of a name
-abbrev pub script_from : List ℕ → Held → Result (List (Option Command)) Status
-script_from name held = of_read 0 (read_answer held name) >>= λ bytes. of_text (script_of bytes)
+-- a script, unless a line of it is refused
+abbrev pub unless_line : Option ℕ → List (Option Command) → Result (List (Option Command)) Status
+unless_line None script = Ok script
+unless_line (Some line) script = Err (status.Refused 0 line (pos 18))
+
+-- the ranks can't run every command yet: the first line that they can't run is refused
+abbrev pub runnable_by : Machine → List (Option Command) → Result (List (Option Command)) Status
+runnable_by machine.Ranks script = unless_line (first_unrunnable (commands_of script)) script
+runnable_by machine.Serial script = Ok script
+
+-- the script that bytes spell, for what is to run it
+abbrev pub script_in : Machine → List ℕ → Result (List (Option Command)) Status
+script_in m bytes = of_text (script_of bytes) >>= λ script. runnable_by m script
+
+-- the script of a name, for what is to run it
+abbrev pub script_from : Machine → List ℕ → Held → Result (List (Option Command)) Status
+script_from m name held = of_read 0 (read_answer held name) >>= λ bytes. script_in m bytes
 
 -- the matrix of m rows and n columns of a file, for a matrix line
 abbrev pub matrix_from : List ℕ → ℕ → ℕ → ℕ → Held → Result Matrix Status
@@ -66,10 +83,10 @@ abbrev pub files_from : List Numbered → Held → Matrices → Result Matrices 
 files_from [] held files = Ok files
 files_from (n ∷ ns) held files = file_then n.line n.command held files (λ h m. files_from ns h m)
 
--- the input of a script of this name
-unfoldable pub input_from : List ℕ → Held → Result Input Status
-input_from name held = script_from name held >>= λ script. files_from (commands_of script) (after_read held) map.empty >>= λ files. Ok (record { script = script; files = files })
+-- the input of a script of this name, for what is to run it
+unfoldable pub input_from : Machine → List ℕ → Held → Result Input Status
+input_from m name held = script_from m name held >>= λ script. files_from (commands_of script) (after_read held) map.empty >>= λ files. Ok (record { script = script; files = files })
 
 -- the input that the words ask for
 abbrev pub input_of : List (List ℕ) → Held → Result Input Status
-input_of words held = of_words (script_name words) >>= λ name. input_from name held
+input_of words held = of_words (script_name words) >>= λ name. input_from (machine_of words) name held

@@ -1,5 +1,5 @@
 -- What the parts of the reading come to.
-use Rattle.std.specs.Prelude.{◌≡◌, ℕ, ◌≤◌, List, Option, Some, Result, Ok, MatchOption, ⊤, IfErr}
+use Rattle.std.specs.Prelude.{◌≡◌, ℕ, ◌≤◌, List, Option, Some, None, Result, Ok, MatchOption, ⊤, IfErr}
 use Rattle.std.specs.FinMap as map
 use Rattle.std.specs.Str.{IsUtf8}
 use Rattle.io_edge.specs.Shelf.{Held}
@@ -9,8 +9,11 @@ use Rattle.run_data.specs.declared.command.Command.TheVariants as c
 use Rattle.run_data.specs.Script.{commands_of, command_at}
 use Rattle.rank_machine.specs.Scripts.{Matrices, file_of}
 use Rattle.script_text.specs.Accepted.{IsAccepted}
+use Rattle.script_text.specs.Runs.{first_unrunnable}
 use Rattle.script_text.specs.MatrixFile.{HasResidues}
 use Rattle.scalapack_top.specs.declared.status.Status.{Status}
+use Rattle.scalapack_top.specs.declared.words.Machine.{Machine}
+use Rattle.scalapack_top.specs.declared.words.Machine.TheVariants as machine
 use Rattle.scalapack_top.specs.declared.input.Prepared.{Prepared}
 use Rattle.scalapack_top.specs.Input.{◌>>=◌, Input, after_read, matrix_from, file_then, files_from}
 use Rattle.scalapack_top.specs.Causes.{Comes, IsCaused, IsFailure}
@@ -70,7 +73,17 @@ abbrev pub FileFits : Option Command → Matrices → ℕ → Type 0
 FileFits (Some (c.Matrix name grid m n mb nb rsrc csrc file)) files line = HasFile m n files line
 FileFits _ files line = Unit {0}
 
--- an accepted script, with the file of each of its matrix lines
-pub record IsReady (script : List (Option Command)) (files : Matrices) : Type 0 where
+-- each matrix line of a script has its file
+abbrev pub HasFiles : List (Option Command) → Matrices → Type 0
+HasFiles script files = (line : ℕ) → FileFits (command_at (commands_of script) line) files line
+
+-- a script has no line that it can't run
+abbrev pub RunsOn : Machine → List (Option Command) → Type 0
+RunsOn machine.Ranks script = first_unrunnable (commands_of script) ≡ None
+RunsOn machine.Serial script = Unit {0}
+
+-- an accepted script that can be run so, with the file of each of its matrix lines
+pub record IsReady (m : Machine) (script : List (Option Command)) (files : Matrices) : Type 0 where
   pub accepted : IsAccepted script
-  pub file : (line : ℕ) → FileFits (command_at (commands_of script) line) files line
+  pub runs : RunsOn m script
+  pub file : HasFiles script files

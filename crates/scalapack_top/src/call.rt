@@ -1,18 +1,18 @@
 //! The top call.
 ghost use Rattle.scalapack_top.specs.declared.status.Status.{Status};
-ghost use Rattle.std.specs.Prelude.{◌≡◌, ◌≤◌, ◌⊎◌, ◌++◌, Bool, List, [], Ok, MatchOption, ⊤, IfOk, IfErr, OnOk, codes, decimal};
-ghost use Rattle.scalapack_top.specs.Words.{texts};
+ghost use Rattle.std.specs.Prelude.{◌≡◌, ◌≤◌, ◌⊎◌, ◌++◌, Bool, true, false, List, [], Ok, MatchOption, ⊤, IfOk, IfErr, OnOk, codes, decimal};
+ghost use Rattle.scalapack_top.specs.Words.{texts, runs_serially, machine_of};
 ghost use Rattle.scalapack_top.specs.Writes.{Output, AllPut, written};
 ghost use Rattle.scalapack_top.specs.Status.{error_text};
 ghost use Rattle.scalapack_top.specs.Input.{Input, input_from};
 ghost use Rattle.scalapack_top.specs.Causes.{FailsAs, IsFailure, IsCaused};
-ghost use Rattle.scalapack_top.specs.Headline.{IsAnswer, IsDone, HasCause};
+ghost use Rattle.scalapack_top.specs.Headline.{IsAnswer, IsDoneBy, HasCause};
 ghost use Rattle.scalapack_top.specs.Work.{error_of, output_of};
 
 use crate::input::read_input;
 use crate::run::run;
 use crate::status::Status;
-use crate::words::{places_of, text_at};
+use crate::words::{Machine, places_of, text_at};
 use crate::writes::write;
 use io_edge::{Shelf, Sink};
 use itoa::Buffer;
@@ -90,17 +90,22 @@ fn ended(alloc: Global, answer: Status) -> Work
     }
 }
 
-// Reads the input of a name and runs it.
-fn run_named<F: Shelf>(alloc: Global, shelf: &mut F, name: &str) -> Result<Ran, Status>
-    ensures ran { IfOk result (λ r. (input : Input) × MatchOption (F.told shelf.old) ⊤ (λ held. input_from name.now held ≡ Ok input) × IsDone input (record { out = r.out.items; err = []; journal = r.journal.items })) }
+// Reads the input of a name and runs it by a machine.
+fn run_named<F: Shelf>(
+    alloc: Global,
+    machine: Machine,
+    shelf: &mut F,
+    name: &str,
+) -> Result<Ran, Status>
+    ensures ran { IfOk result (λ r. (input : Input) × MatchOption (F.told shelf.old) ⊤ (λ held. input_from machine name.now held ≡ Ok input) × IsDoneBy machine input (record { out = r.out.items; err = []; journal = r.journal.items })) }
     ensures failure { IfErr result IsFailure }
-    ensures failed { IfErr result (λ e. MatchOption (F.told shelf.old) ⊤ (λ held. FailsAs e (input_from name.now held))) }
+    ensures failed { IfErr result (λ e. MatchOption (F.told shelf.old) ⊤ (λ held. FailsAs e (input_from machine name.now held))) }
     ensures faults { F.faults shelf.old ≤ F.faults shelf.new }
     ensures longs { F.longs shelf.old ≤ F.longs shelf.new }
     ensures caused { IfErr result (IsCaused (F.faults shelf.old) (F.faults shelf.new) (F.longs shelf.old) (F.longs shelf.new)) }
 {
-    match read_input(alloc, shelf, name) {
-        Ok(prepared) => match run(alloc, &prepared.script, &prepared.files) {
+    match read_input(alloc, machine, shelf, name) {
+        Ok(prepared) => match run(alloc, machine, &prepared.script, &prepared.files) {
             Ok(ran) => Ok(ran),
             Err(_) => Err(Status::NoMemory),
         },
@@ -123,13 +128,13 @@ fn usage(alloc: Global) -> Work
 
 // What the work answers, and what it makes.
 fn answer_words<F: Shelf>(alloc: Global, words: &[String], shelf: &mut F) -> Work
-    ensures answer { IsAnswer (texts words.now) (F.told shelf.old) result.answer (output_of result) }
+    ensures answer { IsAnswer (machine_of (texts words.now)) (texts words.now) (F.told shelf.old) result.answer (output_of result) }
     ensures cause { HasCause (F.faults shelf.old) (F.faults shelf.new) (F.longs shelf.old) (F.longs shelf.new) result.answer }
 {
     let Some(places) = places_of(words) else {
         return usage(alloc);
     };
-    match run_named(alloc, shelf, text_at(words, places.script)) {
+    match run_named(alloc, places.machine, shelf, text_at(words, places.script)) {
         Ok(ran) => Work {
             answer: Status::Done,
             out: ran.out,
@@ -158,8 +163,11 @@ fn error_bytes(work: &Work) -> &[u8]
 /// Runs the script that the words name over the shelf's files, and writes the printed text to `out`, the text of an error to
 /// `err`, and the journal's text to `journal`.
 ///
-/// The words, without the program's name, are `S`, `S --journal J` or `--journal J S`; all others are `Usage`. The script and then
-/// its matrix files in line order are read and checked, each before the next is read; the first fault or refusal is the answer.
+/// The words, without the program's name, are `S`, `S --journal J` or `--journal J S`, which run the script on the ranks, or
+/// `S --serial` or `--serial S`, which run it serially and leave no journal; all others are `Usage`. The script and then its matrix
+/// files in line order are read and checked, each before the next is read; the first fault or refusal is the answer.
+/// A script with a line that the ranks can't run is refused at the first such line, for the words that run the ranks alone: after
+/// its own rules, and before a matrix file is read.
 /// Nothing is written before all is made: then out, err and journal get their bytes in this order, each by one put, and a put of
 /// no bytes isn't made. The first put that fails makes the answer `WriteFault`, and nothing is put after it.
 pub fn scalapack<F: Shelf, O: Sink, E: Sink, J: Sink>(
@@ -170,8 +178,15 @@ pub fn scalapack<F: Shelf, O: Sink, E: Sink, J: Sink>(
     err: &mut E,
     journal: &mut J,
 ) -> Status
-    ensures { (answer : Status) × (output : Output) × (ok : Bool)
-        × IsAnswer (texts words.now) (F.told shelf.old) answer output
+    // For all words but those that ask for the serial machine.
+    ensures ranks { runs_serially (texts words.now) ≡ false → (answer : Status) × (output : Output) × (ok : Bool)
+        × IsAnswer Machine.Ranks (texts words.now) (F.told shelf.old) answer output
+        × HasCause (F.faults shelf.old) (F.faults shelf.new) (F.longs shelf.old) (F.longs shelf.new) answer
+        × AllPut O.told O.faults E.told E.faults J.told J.faults out.old out.new err.old err.new journal.old journal.new output ok
+        × (result ≡ written answer ok) }
+
+    ensures serial { runs_serially (texts words.now) ≡ true → (answer : Status) × (output : Output) × (ok : Bool)
+        × IsAnswer Machine.Serial (texts words.now) (F.told shelf.old) answer output
         × HasCause (F.faults shelf.old) (F.faults shelf.new) (F.longs shelf.old) (F.longs shelf.new) answer
         × AllPut O.told O.faults E.told E.faults J.told J.faults out.old out.new err.old err.new journal.old journal.new output ok
         × (result ≡ written answer ok) }

@@ -3,10 +3,11 @@ ghost use Rattle.std.specs.Prelude.{IfOk};
 ghost use Rattle.script_text.specs.Accepted.{IsAccepted};
 ghost use Rattle.scalapack_top.specs.Input.{after_read, input_from};
 ghost use Rattle.scalapack_top.specs.Causes.{IsStep};
-ghost use Rattle.scalapack_top.specs.Read.{file_due, line_due, after_line, files_read, input_read, IsPart, IsPut, IsAdded, NamesText, IsReady};
+ghost use Rattle.scalapack_top.specs.Read.{file_due, line_due, after_line, files_read, input_read, IsPart, IsPut, IsAdded, NamesText, HasFiles, IsReady};
 
 use crate::reading::{read_matrix, read_script};
 use crate::status::Status;
+use crate::words::Machine;
 use io_edge::Shelf;
 use run_data::{Command, Files, Script};
 use std::alloc::Global;
@@ -66,7 +67,7 @@ fn add_file<F: Shelf>(
 fn files_of<F: Shelf>(alloc: Global, shelf: &mut F, script: &Script) -> Result<Files, Status>
     requires { IsAccepted script.now }
     ensures read { IsPart (λ f. f) (files_read script.now) (F.told shelf.old) (F.faults shelf.old) (F.faults shelf.new) (F.longs shelf.old) (F.longs shelf.new) result }
-    ensures ready { IfOk result (λ f. IsReady script.now f) }
+    ensures files { IfOk result (λ f. HasFiles script.now f) }
 {
     let lines = script.as_slice();
     let mut files = Files::new(alloc);
@@ -81,12 +82,17 @@ fn files_of<F: Shelf>(alloc: Global, shelf: &mut F, script: &Script) -> Result<F
     Ok(files)
 }
 
-/// Reads the script of a name and its files.
-pub fn read_input<F: Shelf>(alloc: Global, shelf: &mut F, name: &str) -> Result<Prepared, Status>
-    ensures read { IsPart input_read (input_from name.now) (F.told shelf.old) (F.faults shelf.old) (F.faults shelf.new) (F.longs shelf.old) (F.longs shelf.new) result }
-    ensures ready { IfOk result (λ p. IsReady p.script p.files) }
+/// Reads the script of a name and its files, for what is to run it.
+pub fn read_input<F: Shelf>(
+    alloc: Global,
+    machine: Machine,
+    shelf: &mut F,
+    name: &str,
+) -> Result<Prepared, Status>
+    ensures read { IsPart input_read (input_from machine name.now) (F.told shelf.old) (F.faults shelf.old) (F.faults shelf.new) (F.longs shelf.old) (F.longs shelf.new) result }
+    ensures ready { IfOk result (λ p. IsReady machine p.script p.files) }
 {
-    let script = match read_script(alloc, shelf, name) {
+    let script = match read_script(alloc, machine, shelf, name) {
         Ok(script) => script,
         Err(e) => return Err(e),
     };

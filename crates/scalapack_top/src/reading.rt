@@ -5,13 +5,15 @@ ghost use Rattle.io_edge.specs.Shelf.{read_answer};
 ghost use Rattle.script_text.specs.Accepted.{IsAccepted};
 ghost use Rattle.script_text.specs.Script.{script_of};
 ghost use Rattle.script_text.specs.MatrixFile.{matrix_of, HasResidues};
-ghost use Rattle.scalapack_top.specs.Input.{of_read, of_text, after_read, script_from, matrix_from};
+ghost use Rattle.scalapack_top.specs.Input.{of_read, of_text, after_read, runnable_by, script_in, script_from, matrix_from};
 ghost use Rattle.scalapack_top.specs.Causes.{Comes, IsOfText, IsStep};
+ghost use Rattle.scalapack_top.specs.Read.{RunsOn};
 
 use crate::status::Status;
+use crate::words::Machine;
 use io_edge::{Shelf, ShelfFault};
 use run_data::{Mat, Script};
-use script_text::{Refused, TextFault, parse_matrix, parse_script};
+use script_text::{Refused, TextFault, first_unrunnable, parse_matrix, parse_script};
 use std::alloc::Global;
 
 // The bytes of a file; its number is 0 for the script.
@@ -47,8 +49,28 @@ fn refused(r: Refused) -> Status
     }
 }
 
+// The script, unless it has a line that what is to run it can't run.
+fn runnable_by(machine: Machine, script: Script) -> Result<Script, Status>
+    ensures due { Comes (λ s. s) result (runnable_by machine script) }
+    ensures fault { IfErr result IsOfText }
+    ensures same { IfOk result (λ s. s ≡ script) }
+    ensures runs { IfOk result (RunsOn machine) }
+{
+    match machine {
+        Machine::Serial => Ok(script),
+        Machine::Ranks => match first_unrunnable(&script) {
+            None => Ok(script),
+            Some(line) => Err(Status::Refused {
+                file: 0,
+                line,
+                code: 18,
+            }),
+        },
+    }
+}
+
 // The script that bytes spell.
-fn script_in(alloc: Global, bytes: &[u8]) -> Result<Script, Status>
+fn parsed(alloc: Global, bytes: &[u8]) -> Result<Script, Status>
     requires { length bytes.now ≤ 16777216 }
     ensures due { Comes (λ s. s) result (of_text (script_of bytes.now)) }
     ensures fault { IfErr result IsOfText }
@@ -58,6 +80,20 @@ fn script_in(alloc: Global, bytes: &[u8]) -> Result<Script, Status>
         Ok(script) => Ok(script),
         Err(TextFault::NoMemory) => Err(Status::NoMemory),
         Err(TextFault::Refused(r)) => Err(refused(r)),
+    }
+}
+
+// The same, for what is to run it.
+fn script_in(alloc: Global, machine: Machine, bytes: &[u8]) -> Result<Script, Status>
+    requires { length bytes.now ≤ 16777216 }
+    ensures due { Comes (λ s. s) result (script_in machine bytes.now) }
+    ensures fault { IfErr result IsOfText }
+    ensures accepted { IfOk result IsAccepted }
+    ensures runs { IfOk result (RunsOn machine) }
+{
+    match parsed(alloc, bytes) {
+        Ok(script) => runnable_by(machine, script),
+        Err(e) => Err(e),
     }
 }
 
@@ -75,13 +111,19 @@ fn matrix_in(alloc: Global, bytes: &[u8], file: u32, m: u32, n: u32) -> Result<M
     }
 }
 
-/// Reads the script of a name.
-pub fn read_script<F: Shelf>(alloc: Global, shelf: &mut F, name: &str) -> Result<Script, Status>
-    ensures read { IsStep (λ s. s) (script_from name.now) after_read (F.told shelf.old) (F.told shelf.new) (F.faults shelf.old) (F.faults shelf.new) (F.longs shelf.old) (F.longs shelf.new) result }
+/// Reads the script of a name, for what is to run it.
+pub fn read_script<F: Shelf>(
+    alloc: Global,
+    machine: Machine,
+    shelf: &mut F,
+    name: &str,
+) -> Result<Script, Status>
+    ensures read { IsStep (λ s. s) (script_from machine name.now) after_read (F.told shelf.old) (F.told shelf.new) (F.faults shelf.old) (F.faults shelf.new) (F.longs shelf.old) (F.longs shelf.new) result }
     ensures accepted { IfOk result IsAccepted }
+    ensures runs { IfOk result (RunsOn machine) }
 {
     match read_file(alloc, shelf, name, 0) {
-        Ok(bytes) => script_in(alloc, &bytes),
+        Ok(bytes) => script_in(alloc, machine, &bytes),
         Err(e) => Err(e),
     }
 }

@@ -2,13 +2,23 @@
 ghost use Rattle.std.specs.Prelude.{◌≡◌, ◌<◌, length, IfOk, IfSome};
 ghost use Rattle.std.specs.Option.{option_map};
 ghost use Rattle.std.specs.String.{string_bytes};
-ghost use Rattle.scalapack_top.specs.Words.{is_plain, is_journal, is_script, is_journal_last, is_journal_first, word_at, places_of, journal_name, texts};
+ghost use Rattle.scalapack_top.specs.Words.{is_plain, is_journal, is_serial, is_script, is_journal_last, is_journal_first, is_serial_last, is_serial_first, word_at, on_ranks, serially, ranks_places, places_of, machine_of, journal_name, texts};
 
 use std::alloc::{AllocError, Global};
 
-/// Where the names of the script and of the journal stand among the words.
+/// What runs a script.
+#[derive(Clone, Copy)]
+pub enum Machine {
+    /// The modelled ranks, which leave a journal.
+    Ranks,
+    /// The serial machine, on whole matrices.
+    Serial,
+}
+
+/// Where the names of the script and of the journal stand among the words, and what runs the script.
 #[derive(Clone, Copy)]
 pub struct Places {
+    pub machine: Machine,
     pub script: usize,
     pub journal: Option<usize>,
 }
@@ -26,6 +36,12 @@ fn is_journal(word: &[u8]) -> bool
     ensures { result ≡ is_journal word.now }
 {
     word == b"--journal".as_slice()
+}
+
+fn is_serial(word: &[u8]) -> bool
+    ensures { result ≡ is_serial word.now }
+{
+    word == b"--serial".as_slice()
 }
 
 /// A word, as its bytes.
@@ -68,31 +84,71 @@ fn is_journal_first(words: &[String]) -> bool
         && is_plain(bytes_at(words, 2))
 }
 
-/// Where the names stand, if the words are of a form that runs a script: `S`, `S --journal J` or `--journal J S`.
-pub fn places_of(words: &[String]) -> Option<Places>
-    ensures places { result ≡ places_of (texts words.now) }
+fn is_serial_last(words: &[String]) -> bool
+    ensures { result ≡ is_serial_last (texts words.now) }
+{
+    words.len() == 2 && is_plain(bytes_at(words, 0)) && is_serial(bytes_at(words, 1))
+}
+
+fn is_serial_first(words: &[String]) -> bool
+    ensures { result ≡ is_serial_first (texts words.now) }
+{
+    words.len() == 2 && is_serial(bytes_at(words, 0)) && is_plain(bytes_at(words, 1))
+}
+
+fn on_ranks(script: usize, journal: Option<usize>) -> Places
+    ensures { result ≡ on_ranks script journal }
+{
+    Places {
+        machine: Machine::Ranks,
+        script,
+        journal,
+    }
+}
+
+fn serially(script: usize) -> Places
+    ensures { result ≡ serially script }
+{
+    Places {
+        machine: Machine::Serial,
+        script,
+        journal: None,
+    }
+}
+
+// Where the names stand, if the words run a script on the ranks: `S`, `S --journal J` or `--journal J S`.
+fn ranks_places(words: &[String]) -> Option<Places>
+    ensures places { result ≡ ranks_places (texts words.now) }
     ensures script { IfSome result (λ p. p.script < length words.now) }
     ensures journal { IfSome result (λ p. IfSome p.journal (λ j. j < length words.now)) }
 {
     if is_script(words) {
-        return Some(Places {
-            script: 0,
-            journal: None,
-        });
+        return Some(on_ranks(0, None));
     }
     if is_journal_last(words) {
-        return Some(Places {
-            script: 0,
-            journal: Some(2),
-        });
+        return Some(on_ranks(0, Some(2)));
     }
     if is_journal_first(words) {
-        return Some(Places {
-            script: 2,
-            journal: Some(1),
-        });
+        return Some(on_ranks(2, Some(1)));
     }
     None
+}
+
+/// Where the names stand, if the words are of a form that runs a script: `S`, `S --journal J`, `--journal J S`, `S --serial` or
+/// `--serial S`.
+pub fn places_of(words: &[String]) -> Option<Places>
+    ensures places { result ≡ places_of (texts words.now) }
+    ensures machine { IfSome result (λ p. p.machine ≡ machine_of (texts words.now)) }
+    ensures script { IfSome result (λ p. p.script < length words.now) }
+    ensures journal { IfSome result (λ p. IfSome p.journal (λ j. j < length words.now)) }
+{
+    if is_serial_last(words) {
+        return Some(serially(0));
+    }
+    if is_serial_first(words) {
+        return Some(serially(1));
+    }
+    ranks_places(words)
 }
 
 /// The name of the journal's file: J where the words are `S --journal J` or `--journal J S`, and none else.

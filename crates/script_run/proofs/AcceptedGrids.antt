@@ -6,7 +6,7 @@ use Rattle.std.proofs.lemmas.Option.{same_Some}
 use Rattle.run_data.specs.declared.command.Command.{Command}
 use Rattle.run_data.specs.declared.command.Command.TheVariants as c
 use Rattle.run_data.specs.Script.{Numbered, commands_of, command_at, is_grid, grids_before}
-use Rattle.blacs_grid.specs.declared.TheConstants.{MAX_CODE_COLUMNS, MAX_RANKS}
+use Rattle.blacs_grid.specs.declared.TheConstants.{MAX_RANKS}
 use Rattle.blacs_grid.specs.declared.Grid.{Grid}
 use Rattle.blacs_grid.specs.Limits.{IsGrid}
 use Rattle.rank_machine.specs.Setting.{sizes, no_grid}
@@ -56,7 +56,7 @@ IsGrid-from_limits p q f first limits few = record {
   rows = limits.rows;
   some_columns = limits.some_columns;
   columns = limits.columns;
-  code_columns = (let none = limits.no_code in let few : f ≤ MAX_CODE_COLUMNS = omega (arith, none) in few);
+  code_columns = limits.code_columns;
   ranks = few;
 }
 

@@ -13,7 +13,8 @@ use Rattle.blacs_grid.specs.Limits.{IsGrid}
 use Rattle.rank_machine.specs.Setting.{Setting, Layout, Job, ranks, no_grid, job, layout, is_matrix}
 use Rattle.rank_machine.specs.Scripts.{Matrices, file_of, grids_from, line_meant, layout_on, setting_of}
 use Rattle.script_text.specs.Accepted.{KeepsRules, IsAccepted}
-use Rattle.script_text.proofs.Limits.{HasLimits, MatrixKept, matrix_kept}
+use Rattle.script_text.specs.Runs.{first_unrunnable}
+use Rattle.script_text.proofs.Limits.{HasLimits, MatrixKept, matrix_kept, no_code_columns}
 use Rattle.run_records.specs.Plain.{IsLaidOut}
 use Rattle.run_records.specs.RunText.{is_matrix_line}
 use Rattle.run_records.specs.Taken.{AllShaped}
@@ -54,19 +55,19 @@ matrix_line-makes script files line h =
 
 -- ---- layouts
 -- a matrix that keeps the rules lies where its grid begins
-laid_on : (s : Setting) (g : Grid) (p q f start number m n mb nb rsrc csrc : ℕ) → g ≡ record { p = p; q = q; f = f; first = start } → HasLimits p q f → start + p * (q + f) ≤ ranks s → ranks s ≤ MAX_RANKS
+laid_on : (s : Setting) (g : Grid) (p q f start number m n mb nb rsrc csrc : ℕ) → g ≡ record { p = p; q = q; f = f; first = start } → HasLimits p q f → f ≡ 0 → start + p * (q + f) ≤ ranks s → ranks s ≤ MAX_RANKS
     → ((ctxt : ℕ) → IsDesc p q (desc_of ctxt p q m n mb nb rsrc csrc)) → IsLaidOut s (layout_on number g m n mb nb rsrc csrc)
-laid_on s g p q f start number m n mb nb rsrc csrc e limits inside few in_range =
+laid_on s g p q f start number m n mb nb rsrc csrc e limits none inside few in_range =
     let there : Grid = record { p = p; q = q; f = f; first = start } in
     let whole : IsLaidOut s (layout_on number there m n mb nb rsrc csrc) = record {
       grid = IsGrid-from_limits p q f start limits (omega (arith, inside, few));
-      no_code = limits.no_code;
+      no_code = none;
       inside = inside;
       desc = in_range number;
     } in
     subst (λ (x : Grid). IsLaidOut s (layout_on number x m n mb nb rsrc csrc)) (sym e) whole
 
-module _ (script : List (Option Command)) (files : Matrices) (h : KeepsRules script) where
+module _ (script : List (Option Command)) (files : Matrices) (h : KeepsRules script) (runs : first_unrunnable (commands_of script) ≡ None) where
   laid_out-command : (line : ℕ) (name grid : List ℕ) (m n mb nb rsrc csrc : ℕ) (file : List ℕ) → command_at (commands_of script) line ≡ Some (c.Matrix name grid m n mb nb rsrc csrc file)
       → IsLaidOut (setting_of script files) (layout (setting_of script files) line)
   laid_out-command line name grid m n mb nb rsrc csrc file e =
@@ -83,7 +84,7 @@ module _ (script : List (Option Command)) (files : Matrices) (h : KeepsRules scr
       ap (λ (k : ℕ). slice_index_or grids k no_grid) number ∙ lies.grid in
       let within = lies.inside in
       let few = sizes-few script h in
-      let laid = laid_on s (slice_index_or grids (line_meant ns line 2) no_grid) p q f lies.start (line_meant ns line 2) m n mb nb rsrc csrc there kept.limits (omega (arith, within)) few kept.in_range in
+      let laid = laid_on s (slice_index_or grids (line_meant ns line 2) no_grid) p q f lies.start (line_meant ns line 2) m n mb nb rsrc csrc there kept.limits (no_code_columns script kept.on.at kept.on.made p q f runs kept.on.grid) (omega (arith, within)) few kept.in_range in
       subst (λ (d : Layout). IsLaidOut s d) (sym (layout-is script line name grid m n mb nb rsrc csrc file e)) laid
 
   pub laid_out : (line : ℕ) → is_matrix (setting_of script files) line ≡ true → IsLaidOut (setting_of script files) (layout (setting_of script files) line)
@@ -110,9 +111,9 @@ pub record IsMatrixMade (s : Setting) (line : ℕ) : Type 0 where
   pub grid : IsGrid (layout s line).grid
   pub desc : IsDesc (layout s line).grid.p (layout s line).grid.q (layout s line).desc
 
-pub accepted-matrix : (script : List (Option Command)) (files : Matrices) (line : ℕ) (name grid : List ℕ) (m n mb nb rsrc csrc : ℕ) (file : List ℕ) → IsAccepted script
+pub accepted-matrix : (script : List (Option Command)) (files : Matrices) (line : ℕ) (name grid : List ℕ) (m n mb nb rsrc csrc : ℕ) (file : List ℕ) → IsAccepted script → first_unrunnable (commands_of script) ≡ None
     → command_at (commands_of script) line ≡ Some (c.Matrix name grid m n mb nb rsrc csrc file) → IsMatrixMade (setting_of script files) line
-accepted-matrix script files line name grid m n mb nb rsrc csrc file accepted e =
+accepted-matrix script files line name grid m n mb nb rsrc csrc file accepted runs e =
     let made = matrix_line-makes script files line (ap is_matrix_line e) in
-    let laid = laid_out script files accepted.lines line made in
+    let laid = laid_out script files accepted.lines runs line made in
     record { makes = made; grid = laid.grid; desc = laid.desc }

@@ -9,8 +9,9 @@ use Rattle.blacs_grid.specs.declared.Grid.{Grid}
 use Rattle.rank_machine.specs.declared.record.Loss.{Loss}
 use Rattle.rank_machine.specs.Setting.{Setting, Job, job, is_matrix, factored}
 use Rattle.rank_machine.specs.Scripts.{Matrices, job_of, jobs_from, grids_from, loss_made, losses_in, line_meant, setting_of}
-use Rattle.script_text.specs.Accepted.{is_read, KeepsRules, IsAccepted}
-use Rattle.script_text.proofs.Limits.{read_kept}
+use Rattle.script_text.specs.Accepted.{IsAccepted}
+use Rattle.script_text.specs.Runs.{can_run, first_unrunnable}
+use Rattle.script_text.proofs.Limits.{run_kept}
 use Rattle.run_records.specs.Plain.{Rise, IsPlain}
 use Rattle.run_records.specs.RunText.{LinesRise, MeansMatrix}
 use Rattle.run_records.proofs.Names.{commands-rise, line_meant-print, matrix_line-above}
@@ -47,38 +48,38 @@ one_purpose_of ns grids (n ∷ more) =
     one_purpose_more (makes_records n.command) (job_of ns grids n.line n.command) (jobs_from ns grids more) (purpose ns grids n.line n.command) (one_purpose_of ns grids more)
 
 -- ---- no line factors, and none loses a rank
-no_factors-accepted : (script : List (Option Command)) (files : Matrices) (line : ℕ) → KeepsRules script → factored (setting_of script files) line ≡ 0
-no_factors-accepted script files line h =
+no_factors-accepted : (script : List (Option Command)) (files : Matrices) (line : ℕ) → first_unrunnable (commands_of script) ≡ None → factored (setting_of script files) line ≡ 0
+no_factors-accepted script files line runs =
     ap (λ (j : Job). j.factors) (job-in_script script line) ∙ by_command (command_at (commands_of script) line) refl
   where
     by_command : (o : Option Command) → command_at (commands_of script) line ≡ o → (job_for (commands_of script) (grids_from 0 (commands_of script)) line o).factors ≡ 0
-    by_command (Some (c.Pgetrf m n a ia ja v)) e = absurd (false≢true (read_kept script line (c.Pgetrf m n a ia ja v) h e))
+    by_command (Some (c.Pgetrf m n a ia ja v)) e = absurd (false≢true (run_kept script line (c.Pgetrf m n a ia ja v) runs e))
     by_command (Some command) e = refl
     by_command None e = refl
 
-no_loss : (command : Command) → is_read command ≡ true → loss_made command ≡ []
+no_loss : (command : Command) → can_run command ≡ true → loss_made command ≡ []
 no_loss (c.Lose at rank) h = absurd (false≢true h)
 no_loss command h = refl
 
-no_losses-in : (script : List (Option Command)) (more : List Numbered) → KeepsRules script → AreThere (commands_of script) more → losses_in more ≡ []
-no_losses-in script [] h all = refl
-no_losses-in script (n ∷ more) h all =
-    ap (λ (first : List Loss). first ++ losses_in more) (no_loss n.command (read_kept script n.line n.command h (there-first (commands_of script) more n all)))
-    ∙ no_losses-in script more h (there-later (commands_of script) more n all)
+no_losses-in : (script : List (Option Command)) (more : List Numbered) → first_unrunnable (commands_of script) ≡ None → AreThere (commands_of script) more → losses_in more ≡ []
+no_losses-in script [] runs all = refl
+no_losses-in script (n ∷ more) runs all =
+    ap (λ (first : List Loss). first ++ losses_in more) (no_loss n.command (run_kept script n.line n.command runs (there-first (commands_of script) more n all)))
+    ∙ no_losses-in script more runs (there-later (commands_of script) more n all)
 
 -- ---- the whole setting
-pub accepted-plain : (script : List (Option Command)) (files : Matrices) → IsAccepted script → IsPlain (setting_of script files)
-accepted-plain script files accepted =
+pub accepted-plain : (script : List (Option Command)) (files : Matrices) → IsAccepted script → first_unrunnable (commands_of script) ≡ None → IsPlain (setting_of script files)
+accepted-plain script files accepted runs =
     let h = accepted.lines in
     let ns : List Numbered = commands_of script in
     let s : Setting = setting_of script files in
     record {
       in_order = jobs_rise ns (grids_from 0 ns) 0 0 ns (commands-rise script) (omega arith);
-      laid_out = laid_out script files h;
-      no_factors = λ line. no_factors-accepted script files line h;
+      laid_out = laid_out script files h runs;
+      no_factors = λ line. no_factors-accepted script files line runs;
       one_purpose = one_purpose-from s (one_purpose_of ns (grids_from 0 ns) ns);
-      prints_live = prints_live script files h;
-      no_losses = no_losses-in script ns h (there-all script);
+      prints_live = prints_live script files h runs;
+      no_losses = no_losses-in script ns runs (there-all script);
     }
 
 -- ---- each print line

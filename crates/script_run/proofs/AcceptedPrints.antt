@@ -14,6 +14,7 @@ use Rattle.rank_machine.specs.Scripts.{Matrices, job_of, jobs_from, grids_from, 
 use Rattle.rank_machine.specs.State.{end_mark}
 use Rattle.rank_machine.specs.Effect.{has_ended, is_dropped, is_live_matrix}
 use Rattle.script_text.specs.Accepted.{KeepsRules}
+use Rattle.script_text.specs.Runs.{first_unrunnable}
 use Rattle.script_text.proofs.Limits.{NameKept, drop_kept, maker-lt}
 use Rattle.run_records.specs.Plain.{PrintsLive}
 use Rattle.run_records.specs.RunText.{is_matrix_line, LinesRise, MeansMatrix}
@@ -60,13 +61,13 @@ means_after n name before line e = by_tests (is_name (name_made n.command) name)
     by_tests false false m d e = still d e
 
 -- a drop means the line that made its name
-drop_means : (script : List (Option Command)) (k line : ℕ) (name : List ℕ) → KeepsRules script → command_at (commands_of script) k ≡ Some (c.Discard name) → line_meant (commands_of script) k 1 ≡ line → maker (commands_of script) k name ≡ Some line
-drop_means script k line name h e meant =
-    let kept : NameKept (commands_of script) k name = drop_kept script k name h e in
+drop_means : (script : List (Option Command)) (k line : ℕ) (name : List ℕ) → KeepsRules script → first_unrunnable (commands_of script) ≡ None → command_at (commands_of script) k ≡ Some (c.Discard name) → line_meant (commands_of script) k 1 ≡ line → maker (commands_of script) k name ≡ Some line
+drop_means script k line name h runs e meant =
+    let kept : NameKept (commands_of script) k name = drop_kept script k name h runs e in
     let same : kept.means.at ≡ line = sym (ap (λ (o : Option ℕ). unwrap_or o 0) kept.operand_is) ∙ meant in
     kept.means.maker_is ∙ ap (λ (l : ℕ). Some l) same
 
-module _ (script : List (Option Command)) (h : KeepsRules script) where
+module _ (script : List (Option Command)) (h : KeepsRules script) (runs : first_unrunnable (commands_of script) ≡ None) where
   module _ (more : List Numbered) (n : Numbered) (bound : ℕ) (known : List ℕ → Option ℕ) (rise : LinesRise bound (n ∷ more)) (left : IsLeft (commands_of script) (n ∷ more) bound known) where
     here : command_at (commands_of script) n.line ≡ Some n.command
     here = command-here (commands_of script) more n bound known rise left
@@ -89,7 +90,7 @@ module _ (script : List (Option Command)) (h : KeepsRules script) where
     other_drop : (name dropped : List ℕ) (line : ℕ) → IsKnown (commands_of script) bound known → is_name (name_dropped n.command) name ≡ false → known name ≡ Some line
         → command_at (commands_of script) n.line ≡ Some (c.Discard dropped) → line_meant (commands_of script) n.line 1 ≡ line → ⊥
     other_drop name dropped line is_known other e there meant =
-        let dropped_known : known dropped ≡ Some line = sym (maker-here (commands_of script) more n bound known dropped rise left) ∙ drop_means script n.line line dropped h there meant in
+        let dropped_known : known dropped ≡ Some line = sym (maker-here (commands_of script) more n bound known dropped rise left) ∙ drop_means script n.line line dropped h runs there meant in
         let same : dropped ≡ name = made_once (command_at (commands_of script) line) dropped name (is_known.made dropped line dropped_known) (is_known.made name line e) in
         let command : n.command ≡ c.Discard dropped = same_Some n.command (c.Discard dropped) (sym here ∙ there) in
         let test : is_name (name_dropped n.command) name ≡ true = ap (λ (x : Command). is_name (name_dropped x) name) command ∙ (bytes_eq-Decides dropped name).1 same in
@@ -106,7 +107,7 @@ module _ (script : List (Option Command)) (h : KeepsRules script) where
         | still other before ↦ (let low = is_known.early name line before in omega (arith, rise.0, low))
       ];
       kept = λ name line k dropped e low there meant. elim (means_after n name (known name) line e) [
-        | anew made same ↦ (let before = maker-lt (commands_of script) k dropped line (drop_means script k line dropped h there meant) in omega (arith, same, before, low))
+        | anew made same ↦ (let before = maker-lt (commands_of script) k dropped line (drop_means script k line dropped h runs there meant) in omega (arith, same, before, low))
         | still other before ↦ elim (cases_lt k n.line) [
           | inl lt ↦ is_known.kept name line k dropped before (not_between k (c.Discard dropped) there lt) there meant
           | inr ge ↦ (let at : k ≡ n.line = omega arith in
@@ -170,7 +171,7 @@ matrix_makes ns line h = by_command (command_at ns line) refl h
     by_command None e h = absurd (false≢true h)
     by_command (Some command) e h = absurd (false≢true h)
 
-module _ (script : List (Option Command)) (files : Matrices) (h : KeepsRules script) where
+module _ (script : List (Option Command)) (files : Matrices) (h : KeepsRules script) (runs : first_unrunnable (commands_of script) ≡ None) where
   print_live : (more : List Numbered) (n : Numbered) (bound before : ℕ) (known : List ℕ → Option ℕ) (name : List ℕ) → LinesRise bound (n ∷ more) → IsLeft (commands_of script) (n ∷ more) bound known
       → IsKnown (commands_of script) bound known → before ≤ bound → Passed (commands_of script) bound before → command_at (commands_of script) n.line ≡ Some (c.Print name)
       → is_live_matrix (setting_of script files) (end_mark before) (line_meant (commands_of script) n.line 1) ≡ true
@@ -213,12 +214,12 @@ module _ (script : List (Option Command)) (files : Matrices) (h : KeepsRules scr
       let grids : List Grid = grids_from 0 ns in
       let next = next_left ns more n bound known rise left in
       let known' : List ℕ → Option ℕ = λ name. maker_after n name (known name) in
-      let is_known' : IsKnown ns n.line known' = known_next script h more n bound known rise left is_known in
+      let is_known' : IsKnown ns n.line known' = known_next script h runs more n bound known rise left is_known in
       one_more (makes_records n.command) (job_of ns grids n.line n.command) (jobs_from ns grids more) before n.line (job_of-line ns grids n.line n.command)
       (λ _. job_live more n bound before known rise left is_known low passed n.command refl)
       (λ makes. prints_from more n.line n.line known' rise.1 next is_known' (omega arith) (λ k command e made le. le))
       (λ skips. prints_from more n.line before known' rise.1 next is_known' (omega (arith, low, rise.0)) (λ k command e made le. elim (cases_lt k n.line) [
-        | inl lt ↦ passed k command e made (not_between script h more n bound known rise left k command e lt)
+        | inl lt ↦ passed k command e made (not_between script h runs more n bound known rise left k command e lt)
         | inr ge ↦ (let at : k ≡ n.line = omega arith in
             let same : n.command ≡ command = same_Some n.command command (sym (command-here ns more n bound known rise left) ∙ ap (command_at ns) (sym at) ∙ e) in
             absurd (true≢false (sym made ∙ ap makes_records (sym same) ∙ skips)))

@@ -1,6 +1,6 @@
 -- What holds of the lines of a script that keeps the rules.
-use Rattle.std.proofs.Common.{◌≡◌, ℕ, zero, suc, ◌+◌, ◌-◌, ◌*◌, ◌<◌, ◌≤◌, Bool, true, false, cond, ltb, leb, List, [], ◌∷◌, ◌++◌, length, get_or, take, drop, Option, Some, None, refl, sym, ap, subst, ◌∙◌, arith}
-use Rattle.std.specs.Prelude.{if◌then◌else◌, is_none, pos, slice_get, ◌&&◌, ◌||◌}
+use Rattle.std.proofs.Common.{◌≡◌, ℕ, zero, suc, ◌+◌, ◌-◌, ◌*◌, ◌==◌, ◌<◌, ◌≤◌, Bool, true, false, cond, ltb, leb, List, [], ◌∷◌, ◌++◌, length, get_or, take, drop, Option, Some, None, refl, sym, ap, subst, ◌∙◌, arith}
+use Rattle.std.specs.Prelude.{if◌then◌else◌, is_none, slice_get, ◌&&◌, ◌||◌}
 use Rattle.std.specs.Str.{IsUtf8}
 use Rattle.std.proofs.lemmas.Bool.{eqb-true, ltb-true, leb-true, false≢true}
 use Rattle.std.proofs.lemmas.Bool.Decides.{nat_tests}
@@ -18,10 +18,14 @@ use Rattle.run_data.specs.declared.command.Command.TheVariants.{Grid, Matrix, Pr
 use Rattle.run_data.specs.Script.{Numbered, commands_from, commands_of, command_at, is_name, name_made, name_dropped, maker_after, maker_from, maker, is_grid_line, grids_before, number_of, meant, name_in, operand}
 use Rattle.run_data.proofs.Lines.{said, command_at-before, command_at-commands_from}
 use Rattle.script_text.specs.declared.kinds.Kind.TheVariants.{NewName, GridName, MatrixName, ThingName, FileName}
-use Rattle.script_text.specs.Rules.{live_matrices, matrix_lines, first_code, command_on, maker_command, is_matrix_line, is_list_line, process_rows, process_columns, ranks_of, ranks_made, word_rules, grid_rules, matrix_rules, rules}
-use Rattle.script_text.specs.Accepted.{named_words, is_read, names_code, broken_by, KeepsRules}
+use Rattle.script_text.specs.declared.layouts.Layout.{Layout}
+use Rattle.script_text.specs.Rules.{live_matrices, matrix_lines, first_code, command_on, maker_command, is_matrix_line, is_list_line, process_rows, process_columns, layout_on, layout_made, layout_of, factored_made, factored, ranks_of, ranks_made, word_rules, grid_rules, matrix_rules, rules}
+use Rattle.script_text.specs.Told.{told_without_losses}
+use Rattle.script_text.specs.Steps.{IsInRange}
+use Rattle.script_text.specs.Runs.{can_run, first_unrunnable}
+use Rattle.script_text.specs.Accepted.{named_words, count_rules, names_code, broken_by, KeepsRules}
 use Rattle.script_text.proofs.Counting.{total-append, commands_from-append, commands_of-none, commands_of-some}
-use Rattle.script_text.proofs.Keeping.{or_none, first_none, all_kept}
+use Rattle.script_text.proofs.Keeping.{or_none, all_kept}
 
 -- ---- the lines before a line
 
@@ -32,7 +36,7 @@ slice_get-take (x ∷ xs) zero k lt = absurd (omega arith)
 slice_get-take (x ∷ xs) (suc i) zero lt = refl
 slice_get-take (x ∷ xs) (suc i) (suc k) lt = slice_get-take xs i k (omega arith)
 
-length-take_le : {X : Type 0} (xs : List X) (i : ℕ) → i ≤ length xs → length (take i xs) ≡ i
+pub length-take_le : {X : Type 0} (xs : List X) (i : ℕ) → i ≤ length xs → length (take i xs) ≡ i
 length-take_le xs zero le = refl
 length-take_le [] (suc i) le = absurd (omega arith)
 length-take_le (x ∷ xs) (suc i) le = ap suc (length-take_le xs i (omega arith))
@@ -51,14 +55,18 @@ maker_from-late k (Some c ∷ lines) line name before le =
     ap (λ t. maker_from (commands_from (suc k) lines) line name (cond t (maker_after (record { line = k; command = c }) name before) before)) (not_lt k line le)
     ∙ maker_from-late (suc k) lines line name before (omega arith)
 
-pub maker-take : (script : List (Option Command)) (i : ℕ) (name : List ℕ) → i ≤ length script → maker (commands_of (take i script)) (suc i) name ≡ maker (commands_of script) (suc i) name
-maker-take script i name le =
+-- what a name means as seen from a line up to one is the same among the lines before
+pub maker-within : (script : List (Option Command)) (i line : ℕ) (name : List ℕ) → i ≤ length script → line ≤ suc i → maker (commands_of (take i script)) line name ≡ maker (commands_of script) line name
+maker-within script i line name le to =
     let front = take i script in
     let back = drop i script in
     let whole : commands_of script ≡ commands_of front ++ commands_from (1 + length front) back =
     ap commands_of (sym (take-append-drop i script)) ∙ commands_from-append 1 front back in
-    sym (ap (λ ns. maker ns (suc i) name) whole ∙ maker_from-append (commands_of front) (commands_from (1 + length front) back) (suc i) name None
-    ∙ maker_from-late (1 + length front) back (suc i) name (maker (commands_of front) (suc i) name) (omega (arith, length-take_le script i le)))
+    sym (ap (λ ns. maker ns line name) whole ∙ maker_from-append (commands_of front) (commands_from (1 + length front) back) line name None
+    ∙ maker_from-late (1 + length front) back line name (maker (commands_of front) line name) (omega (arith, length-take_le script i le)))
+
+pub maker-take : (script : List (Option Command)) (i : ℕ) (name : List ℕ) → i ≤ length script → maker (commands_of (take i script)) (suc i) name ≡ maker (commands_of script) (suc i) name
+maker-take script i name le = maker-within script i (suc i) name le (omega arith)
 
 after_lt : (made dropped : Bool) (n line l : ℕ) (before : Option ℕ) → n < line → (before ≡ Some l → l < line) → cond made (Some n) (cond dropped None before) ≡ Some l → l < line
 after_lt true dropped n line l before lt h e = let same : n ≡ l = same_Some n l e in omega arith
@@ -83,15 +91,54 @@ command_at-take script i (suc l) le =
     command_at-commands_from 1 (take i script) (suc l) (omega arith) ∙ ap (λ n. said (slice_get (take i script) n)) k ∙ ap said (slice_get-take script i l (omega arith))
     ∙ sym (command_at-commands_from 1 script (suc l) (omega arith) ∙ ap (λ n. said (slice_get script n)) k)
 
--- what a name means is the same among the lines before
-pub maker_command-take : (script : List (Option Command)) (i : ℕ) (name : List ℕ) → i ≤ length script → maker_command (commands_of (take i script)) (suc i) name ≡ maker_command (commands_of script) (suc i) name
-maker_command-take script i name le = by_maker (maker (commands_of script) (suc i) name) refl
+-- the command that made what a name means, likewise
+pub maker_command-within : (script : List (Option Command)) (i line : ℕ) (name : List ℕ) → i ≤ length script → line ≤ suc i →
+    maker_command (commands_of (take i script)) line name ≡ maker_command (commands_of script) line name
+maker_command-within script i line name le to = by_maker (maker (commands_of script) line name) refl
   where
-    by_maker : (o : Option ℕ) → maker (commands_of script) (suc i) name ≡ o → maker_command (commands_of (take i script)) (suc i) name ≡ maker_command (commands_of script) (suc i) name
-    by_maker None e = ap (command_on (commands_of (take i script))) (maker-take script i name le ∙ e) ∙ sym (ap (command_on (commands_of script)) e)
+    by_maker : (o : Option ℕ) → maker (commands_of script) line name ≡ o → maker_command (commands_of (take i script)) line name ≡ maker_command (commands_of script) line name
+    by_maker None e = ap (command_on (commands_of (take i script))) (maker-within script i line name le to ∙ e) ∙ sym (ap (command_on (commands_of script)) e)
     by_maker (Some l) e =
-        let lt = maker-lt (commands_of script) (suc i) name l e in
-        ap (command_on (commands_of (take i script))) (maker-take script i name le ∙ e) ∙ command_at-take script i l (omega arith) ∙ sym (ap (command_on (commands_of script)) e)
+        let lt = maker-lt (commands_of script) line name l e in
+        ap (command_on (commands_of (take i script))) (maker-within script i line name le to ∙ e) ∙ command_at-take script i l (omega arith) ∙ sym (ap (command_on (commands_of script)) e)
+
+pub maker_command-take : (script : List (Option Command)) (i : ℕ) (name : List ℕ) → i ≤ length script → maker_command (commands_of (take i script)) (suc i) name ≡ maker_command (commands_of script) (suc i) name
+maker_command-take script i name le = maker_command-within script i (suc i) name le (omega arith)
+
+-- the matrix that a name means, likewise
+pub layout_of-within : (script : List (Option Command)) (i line : ℕ) (name : List ℕ) → i ≤ length script → line ≤ suc i → layout_of (commands_of (take i script)) line name ≡ layout_of (commands_of script) line name
+layout_of-within script i line name le to =
+    ap (λ o. layout_made (commands_of (take i script)) o (maker_command (commands_of (take i script)) line name)) (maker-within script i line name le to)
+    ∙ ap (layout_made (commands_of (take i script)) (maker (commands_of script) line name)) (maker_command-within script i line name le to)
+    ∙ by_maker (maker (commands_of script) line name) refl
+  where
+    by_command : (l : ℕ) (o : Option Command) → l < line → layout_made (commands_of (take i script)) (Some l) o ≡ layout_made (commands_of script) (Some l) o
+    by_command l (Some (Matrix made grid m n mb nb rsrc csrc file)) lt =
+        ap (λ o. layout_on o (maker_command (commands_of (take i script)) l grid) m n mb nb rsrc csrc) (maker-within script i l grid le (omega arith))
+        ∙ ap (λ o. layout_on (maker (commands_of script) l grid) o m n mb nb rsrc csrc) (maker_command-within script i l grid le (omega arith))
+    by_command l o lt = refl
+
+    by_maker : (o : Option ℕ) → maker (commands_of script) line name ≡ o → layout_made (commands_of (take i script)) o (command_on (commands_of script) o) ≡ layout_made (commands_of script) o (command_on (commands_of script) o)
+    by_maker None e = refl
+    by_maker (Some l) e = by_command l (command_at (commands_of script) l) (maker-lt (commands_of script) line name l e)
+
+pub layout_of-take : (script : List (Option Command)) (i : ℕ) (name : List ℕ) → i ≤ length script → layout_of (commands_of (take i script)) (suc i) name ≡ layout_of (commands_of script) (suc i) name
+layout_of-take script i name le = layout_of-within script i (suc i) name le (omega arith)
+
+-- the matrix whose factorization made the list that a name means, likewise
+pub factored-take : (script : List (Option Command)) (i : ℕ) (name : List ℕ) → i ≤ length script → factored (commands_of (take i script)) (suc i) name ≡ factored (commands_of script) (suc i) name
+factored-take script i name le =
+    ap (λ o. factored_made (commands_of (take i script)) o (maker_command (commands_of (take i script)) (suc i) name)) (maker-take script i name le)
+    ∙ ap (factored_made (commands_of (take i script)) (maker (commands_of script) (suc i) name)) (maker_command-take script i name le)
+    ∙ by_maker (maker (commands_of script) (suc i) name) refl
+  where
+    by_command : (l : ℕ) (o : Option Command) → l < suc i → factored_made (commands_of (take i script)) (Some l) o ≡ factored_made (commands_of script) (Some l) o
+    by_command l (Some (Pgetrf m n a ia ja v)) lt = layout_of-within script i l a le (omega arith)
+    by_command l o lt = refl
+
+    by_maker : (o : Option ℕ) → maker (commands_of script) (suc i) name ≡ o → factored_made (commands_of (take i script)) o (command_on (commands_of script) o) ≡ factored_made (commands_of script) o (command_on (commands_of script) o)
+    by_maker None e = refl
+    by_maker (Some l) e = by_command l (command_at (commands_of script) l) (maker-lt (commands_of script) (suc i) name l e)
 
 -- ---- the command on a line
 
@@ -122,27 +169,28 @@ command_at-from_OnLine script place c e =
     command_at-commands_from 1 script (suc place) (omega arith) ∙ ap (λ n. said (slice_get script n)) k ∙ ap said e
 
 -- what a command that breaks no rule keeps
-record Kept (script : List (Option Command)) (place : ℕ) (c : Command) : Type 0 where
-  read : is_read c ≡ true
-  names : names_code (commands_of (take place script)) (suc place) (named_words c) ≡ None
-  own : first_code (rules (commands_of (take place script)) (suc place) c) ≡ None
+pub record Kept (script : List (Option Command)) (place : ℕ) (c : Command) : Type 0 where
+  pub count : first_code (count_rules c) ≡ None
+  pub names : names_code (commands_of (take place script)) (suc place) (named_words c) ≡ None
+  pub own : first_code (rules (told_without_losses (commands_of script)) (commands_of (take place script)) (suc place) c) ≡ None
 
-kept_on : (script : List (Option Command)) (place : ℕ) (c : Command) → KeepsRules script → slice_get script place ≡ Some (Some c) → Kept script place c
+pub kept_on : (script : List (Option Command)) (place : ℕ) (c : Command) → KeepsRules script → slice_get script place ≡ Some (Some c) → Kept script place c
 unfolding broken_by
 kept_on script place c h e =
+    let told = told_without_losses (commands_of script) in
     let front = take place script in
     let size : length front ≡ place = length-take_le script place (omega (arith, slice_get_within script place (Some c) e)) in
-    let one = or_none (first_code ((pos 18, is_read c) ∷ [])) _ (h.kept place c e) in
+    let one = or_none (first_code (count_rules c)) _ (h.kept place c e) in
     let two = or_none (names_code (commands_of front) (suc (length front)) (named_words c)) _ one.1 in
     record {
-      read = (first_none (pos 18) (is_read c) [] one.0).0;
+      count = one.0;
       names = subst (λ n. names_code (commands_of front) (suc n) (named_words c) ≡ None) size two.0;
-      own = subst (λ n. first_code (rules (commands_of front) (suc n) c) ≡ None) size two.1;
+      own = subst (λ n. first_code (rules told (commands_of front) (suc n) c) ≡ None) size two.1;
     }
 
 -- ---- grids
 
-and_parts : (a b : Bool) → (a && b) ≡ true → (a ≡ true) × (b ≡ true)
+pub and_parts : (a b : Bool) → (a && b) ≡ true → (a ≡ true) × (b ≡ true)
 and_parts true b e = (refl, e)
 and_parts false b e = absurd cc
 
@@ -152,7 +200,7 @@ pub record HasLimits (p q f : ℕ) : Type 0 where
   pub rows : p ≤ MAX_PROCESSES
   pub some_columns : 1 ≤ q
   pub columns : q ≤ MAX_PROCESSES
-  pub no_code : f ≡ 0
+  pub code_columns : f ≤ MAX_CODE_COLUMNS
 
 between : (limit n : ℕ) → is_between_one_and limit n ≡ true → (1 ≤ n) × (n ≤ limit)
 between limit n e = let t = and_parts (leb 1 n) (leb n limit) e in (leb-true 1 n t.0, leb-true n limit t.1)
@@ -164,7 +212,7 @@ grid_limits ranks p q f e =
     let sides = and_parts (is_between_one_and MAX_PROCESSES p) (is_between_one_and MAX_PROCESSES q) shape.0 in
     let rows = between MAX_PROCESSES p sides.0 in
     let columns = between MAX_PROCESSES q sides.1 in
-    (record { some_rows = rows.0; rows = rows.1; some_columns = columns.0; columns = columns.1; no_code = eqb-true f 0 kept.1.1.0 }, leb-true (ranks + p * (q + f)) MAX_RANKS kept.1.0)
+    (record { some_rows = rows.0; rows = rows.1; some_columns = columns.0; columns = columns.1; code_columns = leb-true f MAX_CODE_COLUMNS shape.1 }, leb-true (ranks + p * (q + f)) MAX_RANKS kept.1.0)
 
 pub limits_of_grid : (script : List (Option Command)) (line : ℕ) (name : List ℕ) (p q f : ℕ) → KeepsRules script → command_at (commands_of script) line ≡ Some (Grid name p q f) → HasLimits p q f
 limits_of_grid script line name p q f h e =
@@ -192,13 +240,12 @@ IsGrid-from_KeepsRules script line name p q f h e =
     let ranks = ranks_of (commands_of (take on.place script)) in
     let both = grid_limits ranks p q f (kept_on script on.place (Grid name p q f) h on.said).own in
     let here : on.place ≡ line - 1 = omega (arith, on.number) in
-    let few : f ≤ MAX_CODE_COLUMNS = omega (arith, both.0.no_code) in
     record {
       some_rows = both.0.some_rows;
       rows = both.0.rows;
       some_columns = both.0.some_columns;
       columns = both.0.columns;
-      code_columns = few;
+      code_columns = both.0.code_columns;
       ranks = subst (λ k. ranks_of (commands_of (take k script)) + p * (q + f) ≤ MAX_RANKS) here both.1;
     }
 
@@ -341,18 +388,32 @@ print_kept script line name h e =
     subst (λ l. NameKept (commands_of script) l name) (sym on.number)
     (name_kept script on.place (Print name) name le (command_at-from_OnLine script on.place (Print name) on.said) refl (ap is_matrix_line (sym (maker_command-take script on.place name le)) ∙ there))
 
--- no list is live so far, since no line makes one
-no_lists : (script : List (Option Command)) (line : ℕ) (name : List ℕ) → KeepsRules script → is_list_line (maker_command (commands_of script) line name) ≡ false
-no_lists script line name h = by_maker (maker (commands_of script) line name) refl
-  where
-    cs : List Numbered
-    cs = commands_of script
+-- ---- the commands that the ranks can run
 
+runs_by : (n : Numbered) (c : Command) (rest : Option Command) (later : Option ℕ) → (later ≡ None → rest ≡ Some c → can_run c ≡ true) →
+    (runs : Bool) → can_run n.command ≡ runs → cond runs later (Some n.line) ≡ None → (here : Bool) → cond here (Some n.command) rest ≡ Some c → can_run c ≡ true
+runs_by n c rest later more true r f true e = ap can_run (sym (same_Some n.command c e)) ∙ r
+runs_by n c rest later more true r f false e = more f e
+runs_by n c rest later more false r f here e = absurd cc
+
+run_from : (ns : List Numbered) (line : ℕ) (c : Command) → first_unrunnable ns ≡ None → command_at ns line ≡ Some c → can_run c ≡ true
+run_from [] line c f e = absurd cc
+run_from (n ∷ ns) line c f e = runs_by n c (command_at ns line) (first_unrunnable ns) (run_from ns line c) (can_run n.command) refl f (n.line == line) e
+
+-- each command of a script that the ranks can run is one that they can run
+pub run_kept : (script : List (Option Command)) (line : ℕ) (c : Command) → first_unrunnable (commands_of script) ≡ None → command_at (commands_of script) line ≡ Some c → can_run c ≡ true
+run_kept script line c f e = run_from (commands_of script) line c f e
+
+-- their grids have no code columns
+pub no_code_columns : (script : List (Option Command)) (line : ℕ) (name : List ℕ) (p q f : ℕ) → first_unrunnable (commands_of script) ≡ None → command_at (commands_of script) line ≡ Some (Grid name p q f) → f ≡ 0
+no_code_columns script line name p q f r e = eqb-true f 0 (run_kept script line (Grid name p q f) r e)
+
+-- no line makes a list
+no_lists : (script : List (Option Command)) (line : ℕ) (name : List ℕ) → first_unrunnable (commands_of script) ≡ None → is_list_line (maker_command (commands_of script) line name) ≡ false
+no_lists script line name f = by_maker (maker (commands_of script) line name) refl
+  where
     by_command : (at : ℕ) (o : Option Command) → command_at (commands_of script) at ≡ o → is_list_line o ≡ false
-    by_command at (Some (Pgetrf m n a ia ja v)) e =
-        let on = OnLine-from_command_at script at (Pgetrf m n a ia ja v) e in
-        let kept = kept_on script on.place (Pgetrf m n a ia ja v) h on.said in
-        absurd (false≢true kept.read)
+    by_command at (Some (Pgetrf m n a ia ja v)) e = absurd (false≢true (run_kept script at (Pgetrf m n a ia ja v) f e))
     by_command at o e = refl
 
     by_maker : (o : Option ℕ) → maker (commands_of script) line name ≡ o → is_list_line (command_on (commands_of script) o) ≡ false
@@ -363,8 +424,10 @@ or_left : (a b : Bool) → (a || b) ≡ true → b ≡ false → a ≡ true
 or_left true b e f = refl
 or_left false b e f = absurd (false≢true (sym f ∙ e))
 
-pub drop_kept : (script : List (Option Command)) (line : ℕ) (name : List ℕ) → KeepsRules script → command_at (commands_of script) line ≡ Some (Discard name) → NameKept (commands_of script) line name
-drop_kept script line name h e =
+-- what a drop names is a matrix or a pivot list
+pub thing_kept : (script : List (Option Command)) (line : ℕ) (name : List ℕ) → KeepsRules script → command_at (commands_of script) line ≡ Some (Discard name) →
+    (is_matrix_line (maker_command (commands_of script) line name) || is_list_line (maker_command (commands_of script) line name)) ≡ true
+thing_kept script line name h e =
     let on = OnLine-from_command_at script line (Discard name) e in
     let cs = commands_of script in
     let front = commands_of (take on.place script) in
@@ -372,9 +435,25 @@ drop_kept script line name h e =
     let kept = kept_on script on.place (Discard name) h on.said in
     let named = or_none (first_code (word_rules front (suc on.place) ThingName name)) None kept.names in
     let there : (is_matrix_line (maker_command front (suc on.place) name) || is_list_line (maker_command front (suc on.place) name)) ≡ true = (all_kept (word_rules front (suc on.place) ThingName name) named.0).0 in
-    let same = maker_command-take script on.place name le in
-    let matrix : is_matrix_line (maker_command cs (suc on.place) name) ≡ true =
-    or_left _ _ (ap (λ o. is_matrix_line o || is_list_line o) (sym same) ∙ there) (no_lists script (suc on.place) name h) in
+    subst (λ l. (is_matrix_line (maker_command cs l name) || is_list_line (maker_command cs l name)) ≡ true) (sym on.number)
+    (ap (λ o. is_matrix_line o || is_list_line o) (sym (maker_command-take script on.place name le)) ∙ there)
+
+-- so it means something
+pub discard_kept : (script : List (Option Command)) (line : ℕ) (name : List ℕ) → KeepsRules script → command_at (commands_of script) line ≡ Some (Discard name) → (at : ℕ) × (maker (commands_of script) line name ≡ Some at)
+discard_kept script line name h e = by_maker (maker (commands_of script) line name) refl (thing_kept script line name h e)
+  where
+    by_maker : (o : Option ℕ) → maker (commands_of script) line name ≡ o → (is_matrix_line (command_on (commands_of script) o) || is_list_line (command_on (commands_of script) o)) ≡ true → (at : ℕ) × (maker (commands_of script) line name ≡ Some at)
+    by_maker None m t = absurd cc
+    by_maker (Some at) m t = (at, m)
+
+-- where the ranks can run all lines, a drop is of a matrix
+pub drop_kept : (script : List (Option Command)) (line : ℕ) (name : List ℕ) → KeepsRules script → first_unrunnable (commands_of script) ≡ None → command_at (commands_of script) line ≡ Some (Discard name) → NameKept (commands_of script) line name
+drop_kept script line name h r e =
+    let on = OnLine-from_command_at script line (Discard name) e in
+    let cs = commands_of script in
+    let le : on.place ≤ length script = omega (arith, on.inside) in
+    let there = subst (λ l. (is_matrix_line (maker_command cs l name) || is_list_line (maker_command cs l name)) ≡ true) on.number (thing_kept script line name h e) in
+    let matrix : is_matrix_line (maker_command cs (suc on.place) name) ≡ true = or_left _ _ there (no_lists script (suc on.place) name r) in
     subst (λ l. NameKept cs l name) (sym on.number)
     (name_kept script on.place (Discard name) name le (command_at-from_OnLine script on.place (Discard name) on.said) refl matrix)
 
@@ -414,9 +493,79 @@ matrix_name_kept script line name grid m n mb nb rsrc csrc file h e =
     let named = or_none (first_code (word_rules (commands_of (take on.place script)) (suc on.place) NewName name)) _ kept.names in
     subst (λ l. NameIsNew (commands_of script) l name) (sym on.number) (new_kept script on.place name le named.0)
 
--- each command is one of those that are read so far
-pub read_kept : (script : List (Option Command)) (line : ℕ) (c : Command) → KeepsRules script → command_at (commands_of script) line ≡ Some c → is_read c ≡ true
-read_kept script line c h e = let on = OnLine-from_command_at script line c e in (kept_on script on.place c h on.said).read
+pub list_name_kept : (script : List (Option Command)) (line m n : ℕ) (a : List ℕ) (ia ja : ℕ) (v : List ℕ) → KeepsRules script → command_at (commands_of script) line ≡ Some (Pgetrf m n a ia ja v) → NameIsNew (commands_of script) line v
+list_name_kept script line m n a ia ja v h e =
+    let c = Pgetrf m n a ia ja v in
+    let on = OnLine-from_command_at script line c e in
+    let le : on.place ≤ length script = omega (arith, on.inside) in
+    let front = commands_of (take on.place script) in
+    let kept = kept_on script on.place c h on.said in
+    let after_a = or_none (first_code (word_rules front (suc on.place) MatrixName a)) _ kept.names in
+    let named = or_none (first_code (word_rules front (suc on.place) NewName v)) None after_a.1 in
+    subst (λ l. NameIsNew (commands_of script) l v) (sym on.number) (new_kept script on.place v le named.0)
+
+-- ---- the matrices that names mean
+
+-- a matrix in range
+pub record HasSizes (a : Layout) : Type 0 where
+  pub in_range : IsInRange a
+  pub some_rows : 1 ≤ a.m
+  pub rows : a.m ≤ 1024
+  pub some_columns : 1 ≤ a.n
+  pub block_rows : a.mb ≤ 128
+  pub row_source : a.rsrc < a.p
+  pub column_source : a.csrc < a.q
+
+sizes_of : (p q f grid m n mb nb rsrc csrc : ℕ) → HasLimits p q f → IsDesc p q (desc_of 0 p q m n mb nb rsrc csrc) →
+    HasSizes (record { grid = grid; p = p; q = q; f = f; m = m; n = n; mb = mb; nb = nb; rsrc = rsrc; csrc = csrc })
+sizes_of p q f grid m n mb nb rsrc csrc limits d = record {
+  in_range = record {
+    rows = limits.rows;
+    some_columns = limits.some_columns;
+    columns = limits.columns;
+    code_columns = limits.code_columns;
+    size = d.columns;
+    some_block_rows = d.some_block_rows;
+    some_block_columns = d.some_block_columns;
+    block_columns = d.block_columns;
+  };
+  some_rows = d.some_rows;
+  rows = d.rows;
+  some_columns = d.some_columns;
+  block_rows = d.block_rows;
+  row_source = d.row_source;
+  column_source = d.column_source;
+}
+
+-- the matrix that a `matrix` line makes
+pub sizes_of_line : (script : List (Option Command)) (line : ℕ) (name grid : List ℕ) (m n mb nb rsrc csrc : ℕ) (file : List ℕ) → KeepsRules script →
+    command_at (commands_of script) line ≡ Some (Matrix name grid m n mb nb rsrc csrc file) →
+    HasSizes (layout_on (maker (commands_of script) line grid) (maker_command (commands_of script) line grid) m n mb nb rsrc csrc)
+sizes_of_line script line name grid m n mb nb rsrc csrc file h e =
+    let cs = commands_of script in
+    let kept = matrix_kept script line name grid m n mb nb rsrc csrc file h e in
+    let on = kept.on in
+    let is : layout_on (maker cs line grid) (maker_command cs line grid) m n mb nb rsrc csrc ≡ record { grid = on.at; p = on.p; q = on.q; f = on.f; m = m; n = n; mb = mb; nb = nb; rsrc = rsrc; csrc = csrc } =
+    ap (λ o. layout_on o (command_on cs o) m n mb nb rsrc csrc) on.maker_is ∙ ap (λ o. layout_on (Some on.at) o m n mb nb rsrc csrc) on.grid in
+    subst HasSizes (sym is) (sizes_of on.p on.q on.f on.at m n mb nb rsrc csrc kept.limits (kept.in_range 0))
+
+-- the matrix that a name means
+pub sizes_of_name : (script : List (Option Command)) (line : ℕ) (name : List ℕ) → KeepsRules script → is_matrix_line (maker_command (commands_of script) line name) ≡ true → HasSizes (layout_of (commands_of script) line name)
+sizes_of_name script line name h t =
+    let cs = commands_of script in
+    let means = MeansMatrix-from_test cs line name t in
+    let is : layout_of cs line name ≡ layout_on (maker cs means.at means.grid) (maker_command cs means.at means.grid) means.m means.n means.mb means.nb means.rsrc means.csrc =
+    ap (λ o. layout_made cs o (command_on cs o)) means.maker_is ∙ ap (layout_made cs (Some means.at)) means.matrix in
+    subst HasSizes (sym is) (sizes_of_line script means.at means.made means.grid means.m means.n means.mb means.nb means.rsrc means.csrc means.file h means.matrix)
+
+-- what the steps of a line need of a matrix
+pub layout_in_range : (script : List (Option Command)) (line : ℕ) (name : List ℕ) → KeepsRules script → is_matrix_line (maker_command (commands_of script) line name) ≡ true → IsInRange (layout_of (commands_of script) line name)
+layout_in_range script line name h t = (sizes_of_name script line name h t).in_range
+
+pub line_in_range : (script : List (Option Command)) (line : ℕ) (name grid : List ℕ) (m n mb nb rsrc csrc : ℕ) (file : List ℕ) → KeepsRules script →
+    command_at (commands_of script) line ≡ Some (Matrix name grid m n mb nb rsrc csrc file) →
+    IsInRange (layout_on (maker (commands_of script) line grid) (maker_command (commands_of script) line grid) m n mb nb rsrc csrc)
+line_in_range script line name grid m n mb nb rsrc csrc file h e = (sizes_of_line script line name grid m n mb nb rsrc csrc file h e).in_range
 
 -- ---- all ranks
 
@@ -430,7 +579,7 @@ ranks_more script place (Some c) h lt e le =
     let few : ranks_of front + ranks_made c ≤ MAX_RANKS = by_command c (kept_on script place c h e).own in
     subst (λ ns. ranks_of ns ≤ MAX_RANKS) (sym (commands_of-some (take place script) (suc place) c (omega (arith, size)))) (omega (arith, more, few))
   where
-    by_command : (c : Command) → first_code (rules (commands_of (take place script)) (suc place) c) ≡ None → ranks_of (commands_of (take place script)) + ranks_made c ≤ MAX_RANKS
+    by_command : (c : Command) → first_code (rules (told_without_losses (commands_of script)) (commands_of (take place script)) (suc place) c) ≡ None → ranks_of (commands_of (take place script)) + ranks_made c ≤ MAX_RANKS
     by_command (Grid name p q f) own = (grid_limits (ranks_of (commands_of (take place script))) p q f own).1
     by_command c own = omega (arith, le)
 

@@ -1,5 +1,5 @@
 -- Scripts that break no rule.
-use Rattle.std.specs.Prelude.{◌≡◌, ℕ, suc, ◌≤◌, Bool, true, false, List, [], ◌∷◌, length, take, slice_get, Option, Some, None, ℤ, pos}
+use Rattle.std.specs.Prelude.{◌≡◌, ℕ, suc, ◌≤◌, Bool, true, false, nat_le, nat_lt, List, [], ◌∷◌, length, take, slice_get, Option, Some, None, ℤ, pos}
 use Rattle.std.specs.Option.{option_or}
 use Rattle.run_data.specs.declared.command.Command.{Command}
 use Rattle.run_data.specs.declared.command.Command.TheVariants as c
@@ -7,8 +7,10 @@ use Rattle.run_data.specs.Script.{Numbered, commands_of}
 use Rattle.script_text.specs.declared.kinds.Kind.{Kind}
 use Rattle.script_text.specs.declared.kinds.Kind.TheVariants.{NewName, GridName, MatrixName, ListName, ThingName, FileName}
 use Rattle.script_text.specs.declared.rules.TheConstants.{MAX_LINES}
+use Rattle.script_text.specs.declared.told.Told.{Told}
 use Rattle.script_text.specs.declared.bounds.TheConstants.{MAX_RECORDS}
-use Rattle.script_text.specs.Rules.{first_code, word_rules, rules}
+use Rattle.script_text.specs.Rules.{first_code, word_rules, layout_of, rules}
+use Rattle.script_text.specs.Told.{told_without_losses, has_loss}
 use Rattle.script_text.specs.Bounds.{bound}
 
 -- the names of a command and its file, with what each stands for, from left to right
@@ -25,30 +27,36 @@ named_words (c.Pivots name) = (ListName, name) ∷ []
 named_words (c.Discard name) = (ThingName, name) ∷ []
 named_words _ = []
 
--- the commands that are read so far
-abbrev pub is_read : Command → Bool
-is_read (c.Grid name p q f) = true
-is_read (c.Matrix name grid m n mb nb rsrc csrc file) = true
-is_read (c.Print name) = true
-is_read (c.Discard name) = true
-is_read _ = false
-
 -- the first of these words that breaks a rule
 abbrev pub names_code : List Numbered → ℕ → List (Kind × List ℕ) → Option ℤ
 names_code cs line [] = None
 names_code cs line (word ∷ words) = option_or (first_code (word_rules cs line word.0 word.1)) (names_code cs line words)
 
--- the first rule that a command breaks as the next line of a script
-unfoldable pub broken_by : List (Option Command) → Command → Option ℤ
-broken_by script c =
-    option_or (first_code ((pos 18, is_read c) ∷ [])) (option_or (names_code (commands_of script) (suc (length script)) (named_words c)) (first_code (rules (commands_of script) (suc (length script)) c)))
+-- an `order` command has at least one number; the other commands have their number of words as they are
+abbrev pub count_rules : Command → List (ℤ × Bool)
+count_rules (c.Order numbers) = (pos 2, nat_le 1 (length numbers)) ∷ []
+count_rules _ = []
 
--- a script none of whose lines breaks a rule after the lines before it
+-- the first rule that a command breaks as the next line of a script, in the order of a line's rules: the number of its words, its names
+-- from left to right, and the rules of its command; `told` is what the whole script tells
+unfoldable pub broken_by : Told → List (Option Command) → Command → Option ℤ
+broken_by told script c =
+    option_or (first_code (count_rules c))
+    (option_or (names_code (commands_of script) (suc (length script)) (named_words c)) (first_code (rules told (commands_of script) (suc (length script)) c)))
+
+-- a script none of whose lines breaks a rule after the lines before it; the rule that keeps `lose` lines and factorizations with code
+-- columns apart is left out
 pub record KeepsRules (script : List (Option Command)) : Type 0 where
   pub few : length script ≤ MAX_LINES
-  pub kept : (i : ℕ) (c : Command) → slice_get script i ≡ Some (Some c) → broken_by (take i script) c ≡ None
+  pub kept : (i : ℕ) (c : Command) → slice_get script i ≡ Some (Some c) → broken_by (told_without_losses (commands_of script)) (take i script) c ≡ None
+
+-- a command factors a matrix with code columns
+abbrev pub factors_code : List Numbered → ℕ → Command → Bool
+factors_code cs line (c.Pgetrf m n a ia ja v) = nat_lt 0 (layout_of cs line a).f
+factors_code cs line _ = false
 
 -- a script that is accepted
 pub record IsAccepted (script : List (Option Command)) : Type 0 where
   pub lines : KeepsRules script
+  pub apart : has_loss (commands_of script) ≡ true → (i : ℕ) (c : Command) → slice_get script i ≡ Some (Some c) → factors_code (commands_of script) (suc i) c ≡ false
   pub bounded : bound (commands_of script) ≤ MAX_RECORDS

@@ -53,11 +53,3 @@ takes_more c = false
 -- whether a command may have n words after its first
 abbrev pub has_count : CommandWord → ℕ → Bool
 has_count c n = if takes_more c then nat_le (length (kinds_of c)) n else n == length (kinds_of c)
-
--- the commands that are read so far
-abbrev pub is_built : CommandWord → Bool
-is_built w.Grid = true
-is_built w.Matrix = true
-is_built w.Print = true
-is_built w.Discard = true
-is_built c = false

@@ -1,7 +1,7 @@
 //! The commands of a script, and what their words stand for.
 ghost use Rattle.std.specs.Prelude.{◌≡◌};
 ghost use Rattle.std.specs.Str.{bytes_eq};
-ghost use Rattle.script_text.specs.Kinds.{own_words, routine_words, command_in, command_word, kinds_of, takes_more, has_count, is_built};
+ghost use Rattle.script_text.specs.Kinds.{own_words, routine_words, command_in, command_word, kinds_of, takes_more, has_count};
 
 /// A command, as the first word of its line names it.
 #[derive(Clone, Copy)]
@@ -160,7 +160,8 @@ impl CommandWord {
         }
     }
 
-    fn takes_more(self) -> bool
+    /// Whether further numbers may follow its last word.
+    pub fn takes_more(self) -> bool
         ensures { result ≡ takes_more self }
     {
         matches!(self, CommandWord::Order)
@@ -177,22 +178,10 @@ impl CommandWord {
             count == kinds.len()
         }
     }
-
-    /// Whether its lines are read so far.
-    pub fn is_built(self) -> bool
-        ensures { result ≡ is_built self }
-    {
-        match self {
-            CommandWord::Grid => true,
-            CommandWord::Matrix => true,
-            CommandWord::Print => true,
-            CommandWord::Discard => true,
-            _ => false,
-        }
-    }
 }
 
-fn is(word: &[u8], name: &[u8]) -> bool
+/// Whether a word is this one.
+pub fn is(word: &[u8], name: &[u8]) -> bool
     ensures { result ≡ bytes_eq word.now name.now }
 {
     word == name

@@ -2,22 +2,37 @@
 #![tactic(auto)]
 
 mod bounds;
+#[cfg(test)]
+mod bounds_tests;
+mod checking;
 mod commands;
 mod counts;
 mod fault;
 mod kinds;
+mod layouts;
 mod lines;
 mod matrix_file;
 mod names;
 mod numbers;
+#[cfg(test)]
+mod pairs;
 mod reading;
+mod recovery;
+mod routine_lines;
+mod routines;
 mod rules;
+mod runs;
+mod steps;
 #[cfg(test)]
 mod tests;
 mod text;
+mod told;
 
-pub use bounds::bound;
+pub use bounds::{bound, phase_steps};
+pub use checking::check;
 pub use fault::{Refused, TextFault};
 pub use matrix_file::parse_matrix;
 pub use reading::parse_script;
+pub use recovery::recovery_steps;
+pub use runs::first_unrunnable;
 pub use text::{info_text, matrix_text, pivots_text};

@@ -3,8 +3,9 @@ ghost use Rattle.std.specs.Prelude.{◌≡◌, ◌≤◌, ◌<◌, ◌++◌, ◌
 ghost use Rattle.run_data.specs.Script.{commands_of};
 ghost use Rattle.script_text.specs.Gives.{Gives, Fails};
 ghost use Rattle.script_text.specs.Counted.{AreCounts};
-ghost use Rattle.script_text.specs.Script.{refused, command_code, form_code_of, form_code, line_answer, script_after, word_lines, script_of};
+ghost use Rattle.script_text.specs.Script.{refused, command_code, form_code, line_answer, script_after, word_lines, script_of};
 ghost use Rattle.script_text.specs.Accepted.{IsAccepted};
+ghost use Rattle.script_text.specs.Check.{first_refusal};
 
 use crate::bounds::{MAX_RECORDS, bound};
 use crate::commands::command_of;
@@ -12,12 +13,13 @@ use crate::counts::Counts;
 use crate::fault::{Refused, TextFault};
 use crate::kinds::{CommandWord, command_word};
 use crate::lines::{Stop, cut, line_words, skip_one};
-use crate::rules::{MAX_LINES, words_code};
+use crate::rules::{MAX_LINES, more_code, words_code};
+use crate::told::{Told, told_by};
 use run_data::{Command, Script, Word};
 use std::alloc::Global;
 
-// The refusal of a script whose bound is too high.
-fn above_bound() -> Refused
+/// The refusal of a script whose bound is too high.
+pub fn above_bound() -> Refused
     ensures { result ≡ refused 0 (pos 7) }
 {
     Refused {
@@ -38,10 +40,10 @@ fn command_code(script: &Script, command: Option<CommandWord>, others: &[Word]) 
     if !command.has_count(others.len()) {
         return Some(2);
     }
-    if !command.is_built() {
-        return Some(18);
+    match words_code(script, script.lines() + 1, command.kinds(), others) {
+        Some(code) => Some(code),
+        None => more_code(command.takes_more(), others),
     }
-    words_code(script, script.lines() + 1, command.kinds(), others)
 }
 
 // The first rule of its form that a line with these words breaks.
@@ -69,16 +71,17 @@ struct Read {
 // The next line of a script.
 fn read_line(
     alloc: Global,
+    told: Told,
     script: &Script,
     counts: Counts,
     words: &[Word],
 ) -> Result<Read, TextFault>
     requires few { length script.now ≤ MAX_LINES }
     requires counts { AreCounts counts (length script.now) (commands_of script.now) }
-    ensures line { IfOk result (λ r. line_answer script.now words.now ≡ Ok r.command) }
+    ensures line { IfOk result (λ r. line_answer told script.now words.now ≡ Ok r.command) }
     ensures few { OnOk result (length script.now < MAX_LINES) }
     ensures counted { IfOk result (λ r. AreCounts r.counts (suc (length script.now)) (commands_of (script.now ++ r.command ∷ []))) }
-    ensures refused { IfErr result (λ e. Fails e (line_answer script.now words.now)) }
+    ensures refused { IfErr result (λ e. Fails e (line_answer told script.now words.now)) }
 {
     let line = script.lines() + 1;
     if let Some(code) = form_code(script, words) {
@@ -94,7 +97,7 @@ fn read_line(
             counts,
         });
     };
-    match counts.after(script, line, &command) {
+    match counts.after(told, script, line, &command) {
         Ok(counts) => Ok(Read {
             command: Some(command),
             counts,
@@ -107,9 +110,9 @@ fn read_line(
     }
 }
 
-// The script of the lines, without the bound.
-fn read_lines(alloc: Global, bytes: &[u8]) -> Result<Script, TextFault>
-    ensures { Gives result (script_after [] (word_lines bytes.now)) }
+// The script of the lines, without the bound; `told` is what the whole script tells.
+fn read_lines(alloc: Global, told: Told, bytes: &[u8]) -> Result<Script, TextFault>
+    ensures { Gives result (script_after told [] (word_lines bytes.now)) }
 {
     let mut script = Script::new(alloc);
     let mut counts = Counts::new();
@@ -117,7 +120,7 @@ fn read_lines(alloc: Global, bytes: &[u8]) -> Result<Script, TextFault>
     while !rest.is_empty() {
         let (line, after) = cut(rest, Stop::LineFeed);
         let words = line_words(alloc, line)?;
-        let read = match read_line(alloc, &script, counts, &words) {
+        let read = match read_line(alloc, told, &script, counts, &words) {
             Ok(read) => read,
             Err(fault) => return Err(fault),
         };
@@ -130,15 +133,17 @@ fn read_lines(alloc: Global, bytes: &[u8]) -> Result<Script, TextFault>
 
 /// The script that the bytes spell. The refusal is the first broken rule: of the first line that breaks one, by its number, the first
 /// in the order of codes 11, 1 and 2, then of the words from left to right, then of the rules of its command; and at line 0, code 7,
-/// where the records of all lines are more than 4,194,304. A line whose command is not read yet has code 18 after code 2, and a `grid`
-/// line with code columns after code 9.
+/// where the records of all lines are more than 4,194,304. A `lose` line looks at all grids of the script, and a `pgetrf` line at all its
+/// `lose` lines, wherever they stand.
 #[tactic(auto, unfolding(crate::specs::Script::script_of))]
 pub fn parse_script(alloc: Global, bytes: &[u8]) -> Result<Script, TextFault>
     requires { length bytes.now ≤ 16777216 }
     ensures read { Gives result (script_of bytes.now) }
     ensures accepted { IfOk result IsAccepted }
+    ensures checked { IfOk result (λ script. first_refusal script ≡ None) }
 {
-    let script = read_lines(alloc, bytes)?;
+    let told = told_by(alloc, bytes)?;
+    let script = read_lines(alloc, told, bytes)?;
     if MAX_RECORDS < bound(&script) {
         return Err(TextFault::Refused(above_bound()));
     }

@@ -1,15 +1,18 @@
 //! The rules of a script's lines.
 ghost use Rattle.std.specs.Prelude.{◌≡◌, ◌+◌, ◌*◌, ◌≤◌, ◌<◌, ◌^◌, suc, length, drop, Ok, Err, Some, None, IfOk, IfErr, IfNone, is_some, ◌∷◌, [], ◌++◌};
 ghost use Rattle.std.specs.Option.{option_copied};
+ghost use Rattle.std.specs.List.{list_all};
 ghost use Rattle.run_data.specs.Script.{commands_of, is_grid_line, maker};
-ghost use Rattle.script_text.specs.Rules.{maker_command, is_matrix_line, is_list_line, process_rows, process_columns, matrix_words, first_code, word_rules, words_code, grid_rules, matrix_rules, print_rules};
+ghost use Rattle.script_text.specs.Rules.{maker_command, is_matrix_line, is_list_line, process_rows, process_columns, matrix_words, first_code, word_rules, words_code, is_number, more_rules, is_shape, grid_rules, matrix_rules, print_rules, list_rules, topology_rules, links_rules, is_order_number, order_rules, lose_rules};
 
 use crate::kinds::Kind;
+use crate::layouts::Layout;
 use crate::names::{is_name, is_text};
 use crate::numbers::number_of;
+use crate::routines::is_option;
 use array_desc::{MAX_BLOCK, MAX_SIZE};
 use blacs_grid::{MAX_CODE_COLUMNS, MAX_PROCESSES, MAX_RANKS};
-use run_data::{Command, Script, Word};
+use run_data::{Command, IndexList, Script, Word};
 
 /// The greatest number of lines of a script.
 pub const MAX_LINES: u32 = 4096;
@@ -22,6 +25,15 @@ pub const MAX_MATRICES: u32 = 256;
 
 /// The greatest number of words of the matrices that `print` lines name, together.
 pub const MAX_PRINTED: u64 = 268_435_456;
+
+/// The greatest capacity of a link.
+pub const MAX_LINKS: u32 = 64;
+
+/// The greatest number of an `order` line.
+pub const MAX_ORDER: u32 = 4095;
+
+/// The greatest number of numbers of all `order` lines.
+pub const MAX_ORDERED: u32 = 65536;
 
 /// The command that made what a name means as seen from a line.
 pub fn maker_command<'a>(script: &'a Script, line: u32, name: &[u8]) -> Option<&'a Command>
@@ -49,7 +61,8 @@ pub fn is_matrix(script: &Script, line: u32, name: &[u8]) -> bool
     )
 }
 
-fn is_list(script: &Script, line: u32, name: &[u8]) -> bool
+/// Whether a name means a pivot list.
+pub fn is_list(script: &Script, line: u32, name: &[u8]) -> bool
     ensures { result ≡ is_list_line (maker_command (commands_of script.now) line name.now) }
 {
     matches!(
@@ -99,7 +112,8 @@ fn new_name_code(script: &Script, line: u32, word: &[u8]) -> Option<i32>
     }
 }
 
-fn word_code(script: &Script, line: u32, kind: Kind, word: &[u8]) -> Option<i32>
+/// The code of the first rule that a word of a line breaks by its kind.
+pub fn word_code(script: &Script, line: u32, kind: Kind, word: &[u8]) -> Option<i32>
     ensures { result ≡ first_code (word_rules (commands_of script.now) line kind word.now) }
 {
     match kind {
@@ -131,6 +145,27 @@ pub fn words_code(script: &Script, line: u32, kinds: &[Kind], words: &[Word]) ->
     None
 }
 
+// Whether all words are numbers.
+fn are_numbers(words: &[Word]) -> bool
+    ensures { result ≡ list_all is_number words.now }
+{
+    words.iter().all(|word| number_of(word.bytes()).is_some())
+}
+
+/// The code of further words, where they may follow and are not all numbers.
+pub fn more_code(takes_more: bool, words: &[Word]) -> Option<i32>
+    ensures { result ≡ first_code (more_rules takes_more words.now) }
+{
+    code_unless(!takes_more || are_numbers(words), 3)
+}
+
+/// Whether the shape of a grid is in range.
+pub fn is_shape(p: u32, q: u32, f: u32) -> bool
+    ensures value { result ≡ is_shape p q f }
+{
+    1 <= p && p <= MAX_PROCESSES && 1 <= q && q <= MAX_PROCESSES && f <= MAX_CODE_COLUMNS
+}
+
 /// The first broken rule of a grid after so many ranks.
 pub fn grid_code(ranks: u32, p: u32, q: u32, f: u32) -> Option<i32>
     requires { ranks ≤ MAX_RANKS }
@@ -143,7 +178,7 @@ pub fn grid_code(ranks: u32, p: u32, q: u32, f: u32) -> Option<i32>
     if MAX_RANKS < ranks + p * (q + f) {
         return Some(9);
     }
-    code_unless(f == 0, 18)
+    None
 }
 
 /// The first broken rule of a matrix on a grid of `p` process rows and `q` process columns, after so many `matrix` lines, of which so
@@ -192,4 +227,64 @@ pub fn print_code(printed: u64, words: u64) -> Option<i32>
     ensures few { IfNone result (printed + words ≤ MAX_PRINTED) }
 {
     code_unless(printed + words <= MAX_PRINTED, 10)
+}
+
+/// The first broken rule of a new pivot list of a matrix, after so many live lists.
+pub fn list_code(live: u32, has_losses: bool, a: Layout) -> Option<i32>
+    ensures { result ≡ first_code (list_rules live has_losses a) }
+{
+    if MAX_LIVE <= live {
+        return Some(10);
+    }
+    code_unless(!has_losses || a.f == 0, 17)
+}
+
+/// The first broken rule of a `topology` line.
+pub fn topology_code(kind: &[u8]) -> Option<i32>
+    ensures { result ≡ first_code (topology_rules kind.now) }
+{
+    let known = is_option(b"I", b"i", kind)
+        || is_option(b"D", b"d", kind)
+        || is_option(b"T", b"t", kind);
+    code_unless(known, 8)
+}
+
+/// The first broken rule of a `links` line after so many of them.
+pub fn links_code(lines: u32, n: u32) -> Option<i32>
+    ensures code { result ≡ first_code (links_rules lines n) }
+    ensures first { IfNone result (lines ≡ 0) }
+{
+    if n < 1 || MAX_LINKS < n {
+        return Some(8);
+    }
+    code_unless(lines == 0, 16)
+}
+
+// Whether all numbers of an `order` line are in range.
+fn are_order_numbers(numbers: &IndexList) -> bool
+    ensures { result ≡ list_all is_order_number numbers.now }
+{
+    for i in 0..numbers.len() {
+        if MAX_ORDER < numbers.get(i) {
+            return false;
+        }
+    }
+    true
+}
+
+/// The first broken rule of an `order` line after so many numbers of earlier ones.
+pub fn order_code(ordered: u32, numbers: &IndexList) -> Option<i32>
+    requires { ordered ≤ MAX_ORDERED }
+    ensures code { result ≡ first_code (order_rules ordered numbers.now) }
+    ensures few { IfNone result (ordered + length numbers.now ≤ MAX_ORDERED) }
+{
+    let few = u64::from(ordered) + u64::from(numbers.len()) <= u64::from(MAX_ORDERED);
+    code_unless(are_order_numbers(numbers) && few, 8)
+}
+
+/// The first broken rule of a `lose` line, where all grids of the script have so many ranks.
+pub fn lose_code(ranks: u64, rank: u32) -> Option<i32>
+    ensures { result ≡ first_code (lose_rules ranks rank) }
+{
+    code_unless(u64::from(rank) < ranks, 8)
 }

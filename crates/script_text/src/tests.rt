@@ -2,16 +2,18 @@
 ghost use Rattle.std.specs.Prelude.{◌≤◌, length};
 
 use crate::{
-    Refused, TextFault, bound, info_text, matrix_text, parse_matrix, parse_script, pivots_text,
+    Refused, TextFault, bound, check, first_unrunnable, info_text, matrix_text, parse_matrix,
+    parse_script, phase_steps, pivots_text, recovery_steps,
 };
-use run_data::{Command, IndexList, Mat};
+use run_data::{Command, IndexList, Mat, Script, Word};
 use std::alloc::{AllocError as NoMemory, Global};
 use std::test::Fail;
 
-// The line and the code of a script's refusal; line 0 and code 0 where it is accepted.
-fn refusal(alloc: Global, text: &[u8]) -> Result<(u32, i32), NoMemory>
-    requires { length text.now ≤ 16777216 }
-{
+// The line and the code of a script's refusal; line 0 and code 0 where it is accepted. A text of more than 16 MiB is code 12.
+fn refusal(alloc: Global, text: &[u8]) -> Result<(u32, i32), NoMemory> {
+    if 16_777_216 < text.len() {
+        return Ok((0, 12));
+    }
     match parse_script(alloc, text) {
         Ok(_) => Ok((0, 0)),
         Err(TextFault::Refused(refused)) => Ok((refused.line, refused.code)),
@@ -46,11 +48,7 @@ fn repeated_refusal(
     times: u32,
 ) -> Result<(u32, i32), NoMemory> {
     let all = repeated(alloc, head, text, times)?;
-    if all.len() <= 16_777_216 {
-        refusal(alloc, &all)
-    } else {
-        Ok((0, 12))
-    }
+    refusal(alloc, &all)
 }
 
 #[test]
@@ -99,16 +97,20 @@ fn reads_scripts(rt: HostRuntime) -> Result<(), Fail> {
 
 #[test]
 fn refuses_words(rt: HostRuntime) -> Result<(), Fail> {
-    let refused: [(&[u8], (u32, i32)); 22] = [
+    let refused: [(&[u8], (u32, i32)); 26] = [
         (b"qr A", (1, 1)),
         (b"\n\nGRID g 1 1 0", (3, 1)),
         (b"grid g 1 1", (1, 2)),
         (b"grid g 1 1 0 0", (1, 2)),
         (b"order", (1, 2)),
-        (b"order 1 2 3", (1, 18)),
+        (b"order 1 2 3 x", (1, 3)),
+        (b"order 4096", (1, 8)),
+        (b"topology x", (1, 8)),
+        (b"links 65", (1, 8)),
+        (b"links 1\nlinks 2", (2, 16)),
         (b"pgetrf 1 1 A 1 1", (1, 2)),
-        (b"pgetrf x x x x x x", (1, 18)),
-        (b"lose 1 1", (1, 18)),
+        (b"pgetrf x x x x x x", (1, 3)),
+        (b"lose 1 1", (1, 8)),
         (b"grid g 1 x 0", (1, 3)),
         (b"grid g 00000000001 1 0", (1, 3)),
         (b"grid g 4294967296 1 0", (1, 3)),
@@ -140,13 +142,12 @@ fn refuses_words(rt: HostRuntime) -> Result<(), Fail> {
 
 #[test]
 fn refuses_numbers(rt: HostRuntime) -> Result<(), Fail> {
-    let refused: [(&[u8], (u32, i32)); 17] = [
+    let refused: [(&[u8], (u32, i32)); 16] = [
         (b"grid g 17 1 0", (1, 8)),
         (b"grid g 1 0 9", (1, 8)),
         (b"grid g 16 16 5", (1, 8)),
         (b"grid g 16 4 1", (1, 9)),
         (b"grid g 16 4 0\ngrid h 1 1 1", (2, 9)),
-        (b"grid g 1 1 1", (1, 18)),
         (b"grid g 1 1 0\nmatrix A g 0 0 1 1 0 0 f", (2, -3)),
         (b"grid g 1 1 0\nmatrix A g 1025 1 0 1 0 0 f", (2, -3)),
         (b"grid g 1 1 0\nmatrix A g 1 1025 0 1 0 0 f", (2, -4)),
@@ -204,11 +205,7 @@ fn named_refusal(
     for number in 0..count {
         add_line(&mut all, first, number, rest)?;
     }
-    if all.len() <= 16_777_216 {
-        refusal(alloc, &all)
-    } else {
-        Ok((0, 12))
-    }
+    refusal(alloc, &all)
 }
 
 #[test]
@@ -347,5 +344,147 @@ fn prints_values(rt: HostRuntime) -> Result<(), Fail> {
     assert_eq!(rt; text.as_slice(), b"v 2\n2 10\n".as_slice());
     let text = info_text(rt.alloc(), "pgetrf", "A_1", 4294967295)?;
     assert_eq!(rt; text.as_slice(), b"pgetrf A_1 info 4294967295\n".as_slice());
+    Ok(())
+}
+
+// Two grids, of which the second has a code column, and matrices on them.
+const MATRICES: &[u8] =
+    b"grid g 2 2 0\ngrid h 2 2 1\nmatrix A g 4 4 2 2 0 0 f\nmatrix B g 4 4 2 2 0 0 f\nmatrix C g 4 4 2 2 0 0 f\nmatrix D h 4 4 2 2 0 0 f\n";
+
+#[test]
+fn tests_arguments(rt: HostRuntime) -> Result<(), Fail> {
+    let lines: [(&[u8], (u32, i32)); 28] = [
+        (b"pgemm n N 4 4 4 65536 A 1 1 A 1 1 0 C 1 1", (0, 0)),
+        (b"pgemm T N 4 4 4 1 A 1 1 B 1 1 1 C 1 1", (8, -1)),
+        (b"pgemm N N 4 4 4 1 A 1 1 B 1 1 1 A 1 1", (8, -16)),
+        (b"pgemm N N 4 4 4 1 A 1 1 D 1 1 1 C 1 1", (8, -1402)),
+        (b"pgemm N N 4 4 4 1 A 1 1 B 1 1 1 D 1 1", (8, -1902)),
+        (b"pgemm N N 4 4 4 1 A 1 1 B 1 1 65537 A 0 1", (8, -15)),
+        (b"ptrsm l u n u 4 4 1 A 1 1 B 1 1", (0, 0)),
+        (b"ptrsm R U N U 4 4 1 A 1 1 B 1 1", (8, -1)),
+        (b"ptrsm L U N U 4 4 1 A 1 1 A 2 1", (8, -12)),
+        (b"ptrsm L U N U 4 4 1 A 1 1 D 1 1", (8, -1502)),
+        (b"pgetrf 4 4 B 1 1 V", (8, 5)),
+        (b"pgetrf 4 4 B 1 2 W", (8, -5)),
+        (b"pgetrf 4 4 D 1 1 W", (0, 0)),
+        (b"pgetrf 4 4 D 1 1 W\nlose 1 1", (8, 17)),
+        (b"lose 1 8\npgetrf 4 4 D 1 1 W", (9, 17)),
+        (b"lose 1 10", (8, 8)),
+        (b"pgetrs N 4 4 A 1 1 V B 1 1", (0, 0)),
+        (b"pgetrs N 4 4 D 1 1 V B 1 1", (8, -8)),
+        (b"pgetrs N 4 4 A 1 1 V A 1 1", (8, -9)),
+        (b"pgetrs N 4 3 A 1 1 V B 1 1", (8, -3)),
+        (b"pgemr2d 2 2 A 3 1 D 1 3 all", (0, 0)),
+        (b"pgemr2d 0 2 A 0 1 A 1 1 ALL", (8, -1)),
+        (b"pgemr2d 2 2 A 4 1 D 1 1 all", (8, -4)),
+        (b"pgemr2d 2 2 A 1 1 D 1 1 ALL", (8, -11)),
+        (b"pgemr2d 2 2 A 1 1 A 3 3 all", (8, -7)),
+        (b"pivots V", (0, 0)),
+        (b"pivots A", (8, 6)),
+        (b"drop V\npivots V", (9, 6)),
+    ];
+    for (line, first) in lines {
+        let mut text = MATRICES.to_vec(rt.alloc())?;
+        text.extend_from_slice(b"pgetrf 4 4 A 1 1 V\n")?;
+        text.extend_from_slice(line)?;
+        assert_eq!(rt; refusal(rt.alloc(), &text)?, first);
+    }
+    Ok(())
+}
+
+#[test]
+fn bounds_routines(rt: HostRuntime) -> Result<(), Fail> {
+    let lines: [(&[u8], u64, u64, u64); 6] = [
+        (b"pgemm N N 4 4 4 1 A 1 1 B 1 1 1 C 1 1\n", 91, 57, 72),
+        (b"ptrsm L L N N 4 4 1 A 1 1 B 1 1\n", 109, 57, 72),
+        (b"pgetrf 4 4 A 1 1 V\n", 446, 103, 72),
+        (
+            b"pgetrf 4 4 A 1 1 V\npgetrs N 4 4 A 1 1 V B 1 1\npivots V\n",
+            626,
+            103,
+            72,
+        ),
+        (b"pgemr2d 4 4 A 1 1 D 1 1 all\n", 105, 71, 72),
+        (b"lose 5 0\nlose 9 3\n", 216, 19, 72),
+    ];
+    for (line, most, phase, recovery) in lines {
+        let mut text = MATRICES.to_vec(rt.alloc())?;
+        text.extend_from_slice(line)?;
+        if text.len() <= 16_777_216 {
+            let script = parse_script(rt.alloc(), &text)?;
+            assert_eq!(rt; bound(&script), most);
+            assert_eq!(rt; phase_steps(&script), phase);
+            assert_eq!(rt; recovery_steps(&script), recovery);
+            assert_eq!(rt; first_unrunnable(&script), Some(2));
+        }
+    }
+    Ok(())
+}
+
+// The script of a factorization of 256 rows, without its three `lose` lines, with which it would break rule 17; each adds a phase and a
+// recovery.
+#[test]
+fn bounds_a_factorization(rt: HostRuntime) -> Result<(), Fail> {
+    let text =
+        b"grid g 2 3 2\nmatrix A g 256 256 16 16 0 1 a.txt\nmatrix B g 256 4 16 16 0 0 b.txt\nlinks 1\norder 3 1 4 1 5 9 2 6\npgetrf 256 256 A 1 1 V\npgetrs N 256 4 A 1 1 V B 1 1\npivots V\nprint A\nprint B\n";
+    let script = parse_script(rt.alloc(), text)?;
+    let loss = phase_steps(&script) + recovery_steps(&script);
+    assert_eq!(rt; u128::from(bound(&script)) + 3 * u128::from(loss), 129_537);
+    Ok(())
+}
+
+// The line and the code of the first rule that a script breaks; line 0 and code 0 where it breaks none.
+fn first_rule(script: &Script) -> (u32, i32) {
+    match check(script) {
+        Ok(()) => (0, 0),
+        Err(refused) => (refused.line, refused.code),
+    }
+}
+
+#[test]
+fn checks_scripts_that_grow(rt: HostRuntime) -> Result<(), Fail> {
+    let mut text = MATRICES.to_vec(rt.alloc())?;
+    text.extend_from_slice(b"pgetrf 4 4 A 1 1 V")?;
+    assert!(rt; text.len() <= 16_777_216);
+    let mut script = parse_script(rt.alloc(), &text)?;
+    assert_eq!(rt; first_rule(&script), (0, 0));
+    script.push(Some(Command::Lose { at: 7, rank: 9 }))?;
+    assert_eq!(rt; first_rule(&script), (0, 0));
+    script.push(Some(Command::Lose { at: 7, rank: 10 }))?;
+    assert_eq!(rt; first_rule(&script), (9, 8));
+    Ok(())
+}
+
+#[test]
+fn checks_losses_beside_code_columns(rt: HostRuntime) -> Result<(), Fail> {
+    let text = b"grid g 2 3 2\nmatrix A g 4 4 2 2 0 0 f\n\npgetrf 4 4 A 1 1 V\n";
+    let mut script = parse_script(rt.alloc(), text)?;
+    assert_eq!(rt; first_rule(&script), (0, 0));
+    script.push(Some(Command::Lose { at: 0, rank: 0 }))?;
+    assert_eq!(rt; first_rule(&script), (4, 17));
+    Ok(())
+}
+
+#[test]
+fn checks_pushed_lines(rt: HostRuntime) -> Result<(), Fail> {
+    let mut script = Script::new(rt.alloc());
+    script.push(Some(Command::Links { n: 64 }))?;
+    assert_eq!(rt; first_rule(&script), (0, 0));
+    script.push(Some(Command::Print {
+        name: Word::new(rt.alloc(), b"A")?,
+    }))?;
+    assert_eq!(rt; first_rule(&script), (2, 6));
+    let mut script = Script::new(rt.alloc());
+    script.push(Some(Command::Order {
+        numbers: IndexList::new(rt.alloc()),
+    }))?;
+    assert_eq!(rt; first_rule(&script), (1, 2));
+    let mut script = Script::new(rt.alloc());
+    for _ in 0..4096 {
+        script.push(None)?;
+    }
+    assert_eq!(rt; first_rule(&script), (0, 0));
+    script.push(Some(Command::Links { n: 65 }))?;
+    assert_eq!(rt; first_rule(&script), (4097, 11));
     Ok(())
 }

@@ -1,5 +1,4 @@
-use Rattle.std.proofs.Common.{refl}
 use Rattle.scalapack_top.proofs.call.run_named.Goals as goal
 
 pub returns-in-Ok-run-clause-ran : goal.returns-in-Ok-run-clause-ran
-returns-in-Ok-run-clause-ran g c = (record { script = c.in-Ok.prepared.script; files = c.in-Ok.prepared.files }, c.in-Ok.ensures.read.comes, record { run = c.in-Ok-run.ensures; silent = refl })
+returns-in-Ok-run-clause-ran g c = (record { script = c.in-Ok.prepared.script; files = c.in-Ok.prepared.files }, c.in-Ok.ensures.read.comes, c.in-Ok-run.ensures)

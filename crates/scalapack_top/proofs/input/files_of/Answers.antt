@@ -1,7 +1,7 @@
 use Rattle.std.proofs.Common.{◌≡◌, get_or, sym, subst, refl}
 use Rattle.script_text.specs.Accepted.{IsAccepted}
-use Rattle.scalapack_top.specs.Read.{IsReady}
-use Rattle.scalapack_top.proofs.Files.{names_text, none_read, skipped, read_more, read_fails, all_read, all_ready, part_of}
+use Rattle.scalapack_top.specs.Read.{HasFiles}
+use Rattle.scalapack_top.proofs.Files.{names_text, none_read, skipped, read_more, read_fails, all_read, all_there, part_of}
 use Rattle.scalapack_top.proofs.input.files_of.Goals as goal
 use Rattle.scalapack_top.proofs.input.files_of.Goals.{in-Some+in-Ok, in_default}
 
@@ -33,7 +33,7 @@ pub returns-clause-read : goal.returns-clause-read
 returns-clause-read g c =
     part_of _ c.args.script.now _ _ _ _ _ _ c.as_slice-lines.ensures (all_read c.as_slice-lines.result.now c.loop-i.i _ _ _ _ _ _ c.loop-i.files c.loop-i.invariant c.loop-i-test.false)
 
-pub returns-clause-ready : goal.returns-clause-ready
-returns-clause-ready g c =
-    subst (λ s. IsReady s c.loop-i.files) c.as_slice-lines.ensures
-    (all_ready c.as_slice-lines.result.now c.loop-i.i _ _ _ _ _ _ c.loop-i.files c.loop-i.invariant c.loop-i-test.false (subst IsAccepted (sym c.as_slice-lines.ensures) c.requires))
+pub returns-clause-files : goal.returns-clause-files
+returns-clause-files g c =
+    subst (λ s. HasFiles s c.loop-i.files) c.as_slice-lines.ensures
+    (all_there c.as_slice-lines.result.now c.loop-i.i _ _ _ _ _ _ c.loop-i.files c.loop-i.invariant c.loop-i-test.false)

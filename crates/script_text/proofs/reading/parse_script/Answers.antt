@@ -1,25 +1,46 @@
-use Rattle.std.proofs.Common.{◌<◌, ◌≤◌, Err, sym, ap, ◌∙◌, arith}
+use Rattle.std.proofs.Common.{◌≡◌, ◌<◌, ◌≤◌, [], Ok, Err, sym, ap, ◌∙◌, arith}
 use Rattle.run_data.specs.Script.{commands_of}
-use Rattle.script_text.specs.Script.{word_lines}
+use Rattle.script_text.specs.Script.{script_after, word_lines}
+use Rattle.script_text.specs.Told.{told_by}
 use Rattle.script_text.specs.Bounds.{bound}
 use Rattle.script_text.specs.declared.bounds.TheConstants.{MAX_RECORDS}
-use Rattle.script_text.proofs.Keeping.{KeepsRules-from_script_after, read-all, read-above}
+use Rattle.script_text.proofs.Keeping.{read-all, read-above}
+use Rattle.script_text.proofs.Telling.{KeepsRules-from_script_after, apart-from_script_after}
+use Rattle.script_text.proofs.Passing.{first_refusal-from_script_after}
 use Rattle.script_text.proofs.reading.parse_script.Goals as goal
 
 pub bound-requires : goal.bound-requires
-bound-requires c = KeepsRules-from_script_after (word_lines c.args.bytes.now) c.in_ok-script.script c.in_ok-script.ensures
+bound-requires c =
+    let lines = word_lines c.args.bytes.now in
+    let read : script_after (told_by lines) [] lines ≡ Ok c.in_ok-script.script = ap (λ t. script_after t [] lines) (sym c.in_ok-told.ensures) ∙ c.in_ok-script.ensures in
+    KeepsRules-from_script_after lines c.in_ok-script.script read
 
 pub returns-then-bound-gt-MAX_RECORDS-clause-read : goal.returns-then-bound-gt-MAX_RECORDS-clause-read
 returns-then-bound-gt-MAX_RECORDS-clause-read c =
+    let lines = word_lines c.args.bytes.now in
+    let read : script_after (told_by lines) [] lines ≡ Ok c.in_ok-script.script = ap (λ t. script_after t [] lines) (sym c.in_ok-told.ensures) ∙ c.in_ok-script.ensures in
     let above : MAX_RECORDS < bound (commands_of c.in_ok-script.script) = omega (arith, c.bound.ensures, c.if-bound-gt-MAX_RECORDS.true) in
-    read-above c.args.bytes.now c.in_ok-script.script c.in_ok-script.ensures above ∙ ap (λ r. Err r) (sym c.above_bound.ensures)
+    read-above c.args.bytes.now c.in_ok-script.script read above ∙ ap (λ r. Err r) (sym c.above_bound.ensures)
 
 pub returns-clause-read : goal.returns-clause-read
 returns-clause-read c =
+    let lines = word_lines c.args.bytes.now in
+    let read : script_after (told_by lines) [] lines ≡ Ok c.in_ok-script.script = ap (λ t. script_after t [] lines) (sym c.in_ok-told.ensures) ∙ c.in_ok-script.ensures in
     let within : bound (commands_of c.in_ok-script.script) ≤ MAX_RECORDS = omega (arith, c.bound.ensures, c.if-bound-gt-MAX_RECORDS.false) in
-    read-all c.args.bytes.now c.in_ok-script.script c.in_ok-script.ensures within
+    read-all c.args.bytes.now c.in_ok-script.script read within
 
 pub returns-clause-accepted : goal.returns-clause-accepted
 returns-clause-accepted c =
-    let within : bound (commands_of c.in_ok-script.script) ≤ MAX_RECORDS = omega (arith, c.bound.ensures, c.if-bound-gt-MAX_RECORDS.false) in
-    record { lines = KeepsRules-from_script_after (word_lines c.args.bytes.now) c.in_ok-script.script c.in_ok-script.ensures; bounded = within }
+    let lines = word_lines c.args.bytes.now in
+    let script = c.in_ok-script.script in
+    let read : script_after (told_by lines) [] lines ≡ Ok script = ap (λ t. script_after t [] lines) (sym c.in_ok-told.ensures) ∙ c.in_ok-script.ensures in
+    let within : bound (commands_of script) ≤ MAX_RECORDS = omega (arith, c.bound.ensures, c.if-bound-gt-MAX_RECORDS.false) in
+    record { lines = KeepsRules-from_script_after lines script read; apart = apart-from_script_after lines script read; bounded = within }
+
+pub returns-clause-checked : goal.returns-clause-checked
+returns-clause-checked c =
+    let lines = word_lines c.args.bytes.now in
+    let script = c.in_ok-script.script in
+    let read : script_after (told_by lines) [] lines ≡ Ok script = ap (λ t. script_after t [] lines) (sym c.in_ok-told.ensures) ∙ c.in_ok-script.ensures in
+    let within : bound (commands_of script) ≤ MAX_RECORDS = omega (arith, c.bound.ensures, c.if-bound-gt-MAX_RECORDS.false) in
+    first_refusal-from_script_after lines script read within

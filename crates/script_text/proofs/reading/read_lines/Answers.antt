@@ -11,7 +11,7 @@ returns-in-Err c =
     let rest = c.loop-rest.rest.now in
     let ne : length rest ≡ 0 → ⊥ = eqb-false _ _ (sym c.is_empty.ensures ∙ c.loop-rest-test.true) in
     let lt : 0 < length rest = omega arith in
-    stops c.loop-rest.script rest c.cut.result.0.now c.cut.result.1.now (drop 1 c.cut.result.1.now) c.deref.result.now c.in-Err.fault _ lt c.cut.ensures.front c.cut.ensures.back refl
+    stops c.args.told c.loop-rest.script rest c.cut.result.0.now c.cut.result.1.now (drop 1 c.cut.result.1.now) c.deref.result.now c.in-Err.fault _ lt c.cut.ensures.front c.cut.ensures.back refl
     (c.deref.ensures.value ∙ c.in_ok-words.ensures) c.in-Err.ensures.refused c.loop-rest.invariant.0
 
 pub loop-rest-preserved : goal.loop-rest-preserved
@@ -22,11 +22,11 @@ loop-rest-preserved c =
     let lt : 0 < length rest = omega arith in
     let pushed = c.in_ok-push.ensures.pushed in
     let size : length c.push.new.self ≡ suc (length script) = ap length pushed ∙ length-more script _ in (
-      goes_on script c.push.new.self rest c.cut.result.0.now c.cut.result.1.now c.skip_one-rest.result.now c.deref.result.now _ _ lt c.cut.ensures.front c.cut.ensures.back c.skip_one-rest.ensures
+      goes_on c.args.told script c.push.new.self rest c.cut.result.0.now c.cut.result.1.now c.skip_one-rest.result.now c.deref.result.now _ _ lt c.cut.ensures.front c.cut.ensures.back c.skip_one-rest.ensures
           (c.deref.ensures.value ∙ c.in_ok-words.ensures) c.in-Ok.ensures.line pushed c.loop-rest.invariant.0,
       subst (λ n. AreCounts c.in-Ok.read.counts n (commands_of c.push.new.self)) (sym size) (subst (λ s. AreCounts c.in-Ok.read.counts (suc (length script)) (commands_of s)) (sym pushed) c.in-Ok.ensures.counted),
       omega (arith, size, c.in-Ok.ensures.few),
     )
 
 pub returns : goal.returns
-returns c = ends c.loop-rest.script c.loop-rest.rest.now _ (eqb-true _ _ (sym c.is_empty.ensures ∙ c.loop-rest-test.false)) c.loop-rest.invariant.0
+returns c = ends c.args.told c.loop-rest.script c.loop-rest.rest.now _ (eqb-true _ _ (sym c.is_empty.ensures ∙ c.loop-rest-test.false)) c.loop-rest.invariant.0

@@ -7,7 +7,7 @@ use Rattle.script_text.proofs.reading.read_lines.Given as goal
 
 abbrev pub invariant-loop-rest : goal.invariant-loop-rest
 invariant-loop-rest l =
-    (script_after l.script (word_lines l.rest) ≡ script_after [] (word_lines l.bytes))
+    (script_after l.told l.script (word_lines l.rest) ≡ script_after l.told [] (word_lines l.bytes))
     × AreCounts l.counts (length l.script) (commands_of l.script)
     × (length l.script ≤ MAX_LINES)
 

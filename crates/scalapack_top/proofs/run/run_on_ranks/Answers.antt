@@ -1,0 +1,15 @@
+use Rattle.std.proofs.Common.{Result, Ok, Err}
+use Rattle.std.specs.Prelude.{IfOk}
+use Rattle.scalapack_top.proofs.Runnable.{can_run, whole_run}
+use Rattle.scalapack_top.proofs.run.run_on_ranks.Goals as goal
+
+pub run-requires : goal.run-requires
+run-requires c = can_run c.args.script.now c.args.files.now c.requires
+
+both_ok : {T E : Type 0} (r : Result T E) (P Q R : T → Type 0) → IfOk r P → IfOk r Q → ((x : T) → P x → Q x → R x) → IfOk r R
+both_ok (Ok x) P Q R p q f = f x p q
+both_ok (Err e) P Q R p q f = tt
+
+pub returns : goal.returns
+returns c = both_ok c.run.result _ _ _ c.run.ensures.out c.run.ensures.journal
+    (λ x out journal. whole_run c.args.script.now c.args.files.now c.requires x.out.items x.journal.items out journal)

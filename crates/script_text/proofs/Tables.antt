@@ -1,0 +1,33 @@
+-- Tables of rules: one after another, and one table after another.
+use Rattle.std.proofs.Common.{◌≡◌, ℕ, zero, suc, ◌+◌, ◌<◌, Bool, true, false, List, [], ◌∷◌, ◌++◌, length, drop, get_or, Some, refl, ap, ◌∙◌, arith}
+use Rattle.std.specs.Prelude.{ℤ}
+use Rattle.std.specs.Option.{option_or}
+use Rattle.script_text.specs.Rules.{first_code}
+
+-- the rules of two tables
+pub first_code-append : (xs ys : List (ℤ × Bool)) → first_code (xs ++ ys) ≡ option_or (first_code xs) (first_code ys)
+first_code-append [] ys = refl
+first_code-append (x ∷ xs) ys = by_test x.1 (first_code-append xs ys)
+  where
+    by_test : (kept : Bool) → first_code (xs ++ ys) ≡ option_or (first_code xs) (first_code ys) → first_code ((x.0, kept) ∷ xs ++ ys) ≡ option_or (first_code ((x.0, kept) ∷ xs)) (first_code ys)
+    by_test true e = e
+    by_test false e = refl
+
+-- the rules from one on, where it is kept and where it is not
+pub first_code-kept : (rules : List (ℤ × Bool)) (i : ℕ) (d : ℤ × Bool) → i < length rules → (get_or rules i d).1 ≡ true → first_code (drop i rules) ≡ first_code (drop (i + 1) rules)
+first_code-kept [] i d lt e = absurd (omega arith)
+first_code-kept (rule ∷ rules) zero d lt e = by_test rule.0 rule.1 e
+  where
+    by_test : (code : ℤ) (kept : Bool) → kept ≡ true → first_code ((code, kept) ∷ rules) ≡ first_code rules
+    by_test code true e = refl
+    by_test code false e = absurd cc
+first_code-kept (rule ∷ rules) (suc i) d lt e = first_code-kept rules i d (omega arith) e ∙ ap (λ n. first_code (drop n (rule ∷ rules))) (let k : suc (i + 1) ≡ suc i + 1 = omega arith in k)
+
+pub first_code-broken : (rules : List (ℤ × Bool)) (i : ℕ) (d : ℤ × Bool) → i < length rules → (get_or rules i d).1 ≡ false → first_code (drop i rules) ≡ Some (get_or rules i d).0
+first_code-broken [] i d lt e = absurd (omega arith)
+first_code-broken (rule ∷ rules) zero d lt e = by_test rule.0 rule.1 e
+  where
+    by_test : (code : ℤ) (kept : Bool) → kept ≡ false → first_code ((code, kept) ∷ rules) ≡ Some code
+    by_test code true e = absurd cc
+    by_test code false e = refl
+first_code-broken (rule ∷ rules) (suc i) d lt e = first_code-broken rules i d (omega arith) e

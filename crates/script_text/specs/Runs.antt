@@ -1,0 +1,18 @@
+-- The lines that the ranks can run so far.
+use Rattle.std.specs.Prelude.{ℕ, ◌==◌, if◌then◌else◌, Bool, true, false, List, [], ◌∷◌, Option, Some, None}
+use Rattle.run_data.specs.declared.command.Command.{Command}
+use Rattle.run_data.specs.declared.command.Command.TheVariants as c
+use Rattle.run_data.specs.Script.{Numbered}
+
+-- the commands that the ranks can run: of grids those without code columns
+abbrev pub can_run : Command → Bool
+can_run (c.Grid name p q f) = f == 0
+can_run (c.Matrix name grid m n mb nb rsrc csrc file) = true
+can_run (c.Print name) = true
+can_run (c.Discard name) = true
+can_run _ = false
+
+-- the first line that they can't run
+abbrev pub first_unrunnable : List Numbered → Option ℕ
+first_unrunnable [] = None
+first_unrunnable (n ∷ ns) = if can_run n.command then first_unrunnable ns else Some n.line
