@@ -1,0 +1,4 @@
+pub mod JobAt
+pub mod Left
+mod Tables
+pub mod TableLaws

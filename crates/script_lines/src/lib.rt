@@ -1,0 +1,14 @@
+//! What the lines of a script ask of the ranks: its grids, where each matrix lies, which lines factor and drop what, and which
+//! slots are live under a mark.
+#![tactic(auto)]
+
+mod layouts;
+mod lines;
+mod live;
+
+pub use layouts::{Layout, grids_of, layout_of};
+pub use lines::{Line, lines_of};
+pub use live::{factoring, find, is_live, is_live_list, is_live_matrix, layout_at};
+
+#[cfg(test)]
+mod tests;
