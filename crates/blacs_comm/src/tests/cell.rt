@@ -48,6 +48,8 @@ impl Store for Cell {
 
     ghost base = { λ x p. None };
 
+    ghost blank = { λ x. record { own = 0; work = 0 } };
+
     ghost keeps_base = { record { applied = λ x op h. refl; written = λ x p w h. refl } };
 
     ghost reads_back = { record { can = λ x p w h. tt; same = λ x. elim [ Own ↦ λ w h. refl | Work ↦ λ w h. refl ] } };

@@ -37,6 +37,8 @@ impl Store for Counter {
 
     ghost base = { λ x p. Some x.saved };
 
+    ghost blank = { λ x. record x { now = 0 } };
+
     ghost keeps_base = { record { applied = λ x op h. refl; written = λ x p w h. refl } };
 
     ghost reads_back = { record { can = λ x p w h. tt; same = λ x p w h. ap (λ b. if b then w else x.saved) h } };

@@ -31,6 +31,8 @@ impl Store for Word {
 
     ghost base = { λ x p. None };
 
+    ghost blank = { λ x. record { value = 0 } };
+
     ghost keeps_base = { record { applied = λ x op h. refl; written = λ x p w h. refl } };
 
     ghost reads_back = { record { can = λ x p w h. tt; same = λ x p w h. refl } };
