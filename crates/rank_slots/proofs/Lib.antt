@@ -1,0 +1,15 @@
+pub mod CellLaws
+pub mod CellWords
+pub mod Factors
+pub mod Kept
+pub mod LegalSteps
+pub mod ListOrder
+pub mod PieceLaws
+pub mod PlaceLaws
+pub mod Residues
+pub mod SlotOrder
+pub mod StepWords
+pub mod Steps
+pub mod StoreLaws
+pub mod TestLaws
+pub mod Worlds

@@ -1,0 +1,4 @@
+pub mod Cells
+pub mod Rank
+pub mod Shapes
+pub mod Stands
