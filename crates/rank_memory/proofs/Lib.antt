@@ -1,0 +1,5 @@
+pub mod Changes
+pub mod Examples
+pub mod RowLaws
+pub mod TableLaws
+pub mod TakenOut

@@ -1,0 +1,73 @@
+-- Which rows a kernel reaches.
+use Rattle.std.proofs.Common.{◌≡◌, ◌+◌, ◌-◌, ◌*◌, ◌%◌, ◌<◌, ◌≤◌, ◌==◌, ◌&&◌, ℕ, Bool, true, false, nat_lt, nat_le, sym, ◌∙◌, arith, ⊎_elim}
+use Rattle.std.specs.Prelude.{if◌then◌else◌}
+use Rattle.std.proofs.lemmas.Bool.{cases_lt, lt-ltb, le-ltb, lt-leb, le-leb, eq-eqb}
+use Rattle.run_data.specs.declared.matrix.Part.{Part}
+use Rattle.run_data.specs.Matrix.{Matrix, cols, entry, IsShaped, zero_matrix}
+use Rattle.run_data.specs.Parts.{part_entry}
+use Rattle.run_data.proofs.Matrices.{tabulate-same, cols-tabulate, entry-past, entry-past_columns}
+use Rattle.local_blas.specs.Kernels.{multiplier, with_eliminated}
+use Rattle.array_desc.specs.Maps.{global, numroc}
+use Rattle.array_desc.proofs.CountLaws.{global-lt, local-lt_from_global}
+use Rattle.rank_machine.specs.Setting.{Layout, global_row, global_col}
+use Rattle.rank_slots.specs.Shapes.{is_in_triangle}
+
+-- global rows rise with local ones
+pub global-rises : (k l nb proc src procs : ℕ) → 0 < nb → src < procs → proc < procs → k ≤ l → global k nb proc src procs ≤ global l nb proc src procs
+global-rises k l nb proc src procs b s p h =
+    let x : l < numroc (global l nb proc src procs + 1) nb proc src procs = local-lt_from_global l (global l nb proc src procs + 1) nb proc src procs b s p (omega arith) in
+    let y : global k nb proc src procs < global l nb proc src procs + 1 = global-lt k (global l nb proc src procs + 1) nb proc src procs b s p (omega (arith, x, h)) in
+    omega (arith, y)
+
+-- rows before an end, by their global rows
+pub before_end : (i e g c : ℕ) → (i < e → g < c + 1) → (e ≤ i → c + 1 ≤ g) → nat_lt i e ≡ nat_le g c
+before_end i e g c below above =
+    ⊎_elim
+    (λ (h : i < e). let k : g ≤ c = omega (arith, below h) in lt-ltb i e h ∙ sym (le-leb g c k))
+    (λ (h : e ≤ i). let k : c < g = omega (arith, above h) in le-ltb i e h ∙ sym (lt-leb g c k))
+    (cases_lt i e)
+
+-- rows from an end on
+pub from_end : (i e g c : ℕ) → (i < e → g < c + 1) → (e ≤ i → c + 1 ≤ g) → nat_le e i ≡ nat_lt c g
+from_end i e g c below above =
+    ⊎_elim
+    (λ (h : i < e). let k : g ≤ c = omega (arith, below h) in lt-leb e i h ∙ sym (le-ltb c g k))
+    (λ (h : e ≤ i). let k : c < g = omega (arith, above h) in le-leb e i h ∙ sym (lt-ltb c g k))
+    (cases_lt i e)
+
+-- a row of a triangle, by the end of its rows
+in_triangle : (d : Layout) (rank : ℕ) (upper : Bool) (block i j e : ℕ) → (i < e → global_row d rank i < global_col d block j + 1) → (e ≤ i → global_col d block j + 1 ≤ global_row d rank i) → (if upper then nat_lt i e else nat_le e i) ≡ is_in_triangle d rank upper block i j
+in_triangle d rank true block i j e below above = before_end i e (global_row d rank i) (global_col d block j) below above
+in_triangle d rank false block i j e below above = from_end i e (global_row d rank i) (global_col d block j) below above
+
+pub is_reached : (d : Layout) (rank : ℕ) (upper : Bool) (block i j e rows limit r0 c0 : ℕ) → limit ≡ block * d.desc.nb + j + 1 → i < rows → r0 ≤ i → c0 ≤ j
+    → ((k : ℕ) → k < e → global_row d rank k < limit) → ((k : ℕ) → e ≤ k → k < rows → limit ≤ global_row d rank k)
+    → (if upper then nat_lt i e else nat_le e i) ≡ is_in_triangle d rank upper block (r0 + (i - r0)) (c0 + (j - c0))
+is_reached d rank upper block i j e rows limit r0 c0 is lt r c below above =
+    let x : i ≡ r0 + (i - r0) = omega arith in
+    let y : j ≡ c0 + (j - c0) = omega arith in
+    in_triangle d rank upper block i j e (λ h. omega (arith, below i h, is)) (λ h. omega (arith, above i h lt, is))
+    ∙ (λ n. is_in_triangle d rank upper block (x n) (y n))
+
+-- a word that gains a multiple of another where a test holds
+pub gains_where : (p x x' a y y' new : ℕ) (b b' : Bool) → new ≡ (if b then (x + a * y) % p else x) → b ≡ b' → x ≡ x' → y ≡ y' → new ≡ (if b' then (x' + a * y') % p else x')
+gains_where p x x' a y y' new b b' e t u v = e ∙ (λ n. if t n then (u n + a * v n) % p else u n)
+
+-- the same rows below, and the same pivot row
+pub with_eliminated-same : (p : ℕ) (inverse : ℕ → ℕ) (a : Matrix) (f g : ℕ → Bool) (j : ℕ) (row : Matrix) (rp : Part) (row' : Matrix) (rp' : Part) → j < cols a
+    → ((i : ℕ) → i < a.rows → f i ≡ g i) → ((k : ℕ) → k < cols a → part_entry row rp 0 k ≡ part_entry row' rp' 0 k)
+    → with_eliminated p inverse a f j row rp ≡ with_eliminated p inverse a g j row' rp'
+with_eliminated-same p inverse a f g j row rp row' rp' lt below same =
+    tabulate-same a.rows (cols a) _ _
+    (λ i k x y. let t = below i x in let u = same j lt in let v = same k y in
+    λ n. if t n && nat_le j k then (if k == j then multiplier p inverse a j (u n) i else (entry a i k + (p - 1) * (multiplier p inverse a j (u n) i * v n)) % p) else entry a i k)
+
+-- words that are not there count as zero
+pub past_rows : (m : Matrix) (i j : ℕ) → IsShaped m → m.rows ≤ i → true ≡ (entry m i j == 0)
+past_rows m i j shaped h = sym (eq-eqb (entry m i j) 0 (entry-past m shaped i j h))
+
+pub past_columns : (m : Matrix) (i j : ℕ) → cols m ≤ j → true ≡ (entry m i j == 0)
+past_columns m i j h = sym (eq-eqb (entry m i j) 0 (entry-past_columns m i j h))
+
+pub nothing : (i j : ℕ) → true ≡ (entry (zero_matrix 0 0) i j == 0)
+nothing i j = past_columns (zero_matrix 0 0) i j (omega (arith, cols-tabulate 0 0 (λ r c. 0)))

@@ -1,0 +1,186 @@
+//! The kernels that change a tile that is there. Their tile is out of its slot; what they read is in its slots.
+ghost use Rattle.std.specs.Prelude.{◌≡◌, ◌∷◌, [], ◌++◌, min, true, false, Some, IsSome, IsTrue, IfOk, OnOk};
+ghost use Rattle.rank_machine.specs.declared.slot.Tile.TheVariants.{Words, Index};
+ghost use Rattle.rank_machine.specs.Effect.{numbers_of, number_of, is_index, pushed, slot_of, target, made_by};
+ghost use Rattle.rank_machine.specs.Legal.{is_number, makes};
+ghost use Rattle.script_lines.specs.Lines.{setting_on, AreSound};
+ghost use Rattle.rank_slots.specs.Cells.{tiles_in, with_slot, IsMatrixOf, IsTileOf, AreCellsOf};
+ghost use Rattle.rank_slots.specs.Rank.{IsFit, changes_words};
+
+use crate::made::{number_in, single, words_at};
+use crate::pieces::area_of;
+use crate::search::NONE;
+use crate::words::{
+    add_words, copy_words, eliminate_words, multiply_words, scale_words, solve_words_lower,
+    solve_words_upper,
+};
+use field_core::Field;
+use local_blas::swap_rows;
+use rank_machine::{Kernel, Piece, Tile};
+use rank_slots::{Cells, find_tile};
+use run_data::Mat;
+use script_lines::Line;
+use std::alloc::{AllocError, Global};
+
+/// Changes the words of a kernel's tile.
+pub fn change_words<K: Field>(
+    alloc: Global,
+    table: &[Line],
+    rank: u32,
+    cells: &Cells,
+    kernel: &Kernel,
+    dst: &mut Mat,
+) -> Result<(), AllocError>
+    requires words { changes_words kernel.now ≡ true }
+    requires sound { AreSound table.now }
+    requires residues { AreCellsOf K.MODULUS cells.now }
+    requires dst_words { IsMatrixOf K.MODULUS dst.old }
+    requires fit { IsFit K.MODULUS (setting_on K.MODULUS table.now) rank (with_slot (tiles_in cells.now) (slot_of (target kernel.now)) (Words dst.old)) kernel.now }
+    ensures { OnOk result (Words dst.new ≡ made_by (setting_on K.MODULUS table.now) rank (with_slot (tiles_in cells.now) (slot_of (target kernel.now)) (Words dst.old)) kernel.now) }
+{
+    match *kernel {
+        Kernel::Copy(to, from) => {
+            let at = area_of(to, dst);
+            let m = words_at(cells, from);
+            Ok(copy_words(dst, at, m, from))
+        }
+        Kernel::Scale(to, a) => Ok(scale_words::<K>(dst, to, a)),
+        Kernel::Add(to, a, from, cut) => {
+            let m = words_at(cells, from);
+            Ok(add_words::<K>(table, rank, dst, to, a, m, from, cut))
+        }
+        Kernel::MulAdd(to, a, left, right) => {
+            let x = words_at(cells, left);
+            let y = words_at(cells, right);
+            Ok(multiply_words::<K>(dst, to, a, x, left, y, right))
+        }
+        Kernel::Lower(to, block, unit) => {
+            let m = words_at(cells, block);
+            Ok(solve_words_lower::<K>(dst, to, m, block, unit))
+        }
+        Kernel::Upper(to, block, unit) => {
+            let m = words_at(cells, block);
+            Ok(solve_words_upper::<K>(dst, to, m, block, unit))
+        }
+        Kernel::Swap(_, i, j) => Ok(swap_rows(dst, i, j)),
+        Kernel::Elim(to, j, above, row) => {
+            let m = words_at(cells, row);
+            eliminate_words::<K>(alloc, table, rank, dst, to, j, above, m, row)
+        }
+        _ => unreachable!(),
+    }
+}
+
+/// The smaller number of two tiles, as a tile.
+pub fn least_of_two(alloc: Global, tile: &Tile, other: &Tile) -> Result<Tile, AllocError>
+    requires number { IsTrue (is_number (Some tile.now)) }
+    requires other { IsTrue (is_number (Some other.now)) }
+    ensures { IfOk result (λ t. t ≡ Index (min (number_of (Some tile.now)) (number_of (Some other.now)) ∷ [])) }
+{
+    let n = number_in(tile).min(number_in(other));
+    single(alloc, n)
+}
+
+// The number that goes last in a list. One that does not fit wants memory.
+fn number_to_push(n: u32, above: u32) -> Result<u32, AllocError>
+    ensures { IfOk result (λ r. r ≡ pushed n above) }
+{
+    if n != NONE {
+        return Ok(n);
+    }
+    if above == u32::MAX {
+        return Err(AllocError);
+    }
+    Ok(above + 1)
+}
+
+/// A list of numbers with the number of another tile, or with a row where that means none.
+pub fn push_to(tile: Tile, other: &Tile, above: u32) -> Result<Tile, AllocError>
+    requires index { IsTrue (is_index (Some tile)) }
+    requires other { IsTrue (is_number (Some other.now)) }
+    ensures { IfOk result (λ t. t ≡ Index (numbers_of (Some tile) ++ pushed (number_of (Some other.now)) above ∷ [])) }
+{
+    let n = number_to_push(number_in(other), above)?;
+    match tile {
+        Tile::Index(mut numbers) => {
+            numbers.push(n)?;
+            Ok(Tile::Index(numbers))
+        }
+        Tile::Words(_) => unreachable!(),
+    }
+}
+
+// The tile of a piece's slot.
+pub fn tile_at(cells: &Cells, x: Piece) -> &Tile
+    requires { IsSome (tiles_in cells.now (slot_of x)) }
+    ensures { Some result.now ≡ tiles_in cells.now (slot_of x) }
+{
+    match find_tile(cells, x.slot()) {
+        Some(tile) => tile,
+        None => unreachable!(),
+    }
+}
+
+/// Whether a kernel changes words.
+pub fn is_for_words(kernel: &Kernel) -> bool
+    ensures { result ≡ changes_words kernel.now }
+{
+    match *kernel {
+        Kernel::Zero(_, _, _) => false,
+        Kernel::Copy(Piece::Whole(_), _) => false,
+        Kernel::First(_, _, _, _) => false,
+        Kernel::Diag(_, _, _) => false,
+        Kernel::Least(_, _) => false,
+        Kernel::Push(_, _, _) => false,
+        _ => true,
+    }
+}
+
+/// The numbers of a kernel's tile, changed.
+fn change_numbers<K: Field>(
+    alloc: Global,
+    table: &[Line],
+    rank: u32,
+    cells: &Cells,
+    kernel: &Kernel,
+    tile: Tile,
+) -> Result<Tile, AllocError>
+    requires words { changes_words kernel.now ≡ false }
+    requires makes { makes kernel.now ≡ false }
+    requires fit { IsFit K.MODULUS (setting_on K.MODULUS table.now) rank (with_slot (tiles_in cells.now) (slot_of (target kernel.now)) tile) kernel.now }
+    ensures { IfOk result (λ t. t ≡ made_by (setting_on K.MODULUS table.now) rank (with_slot (tiles_in cells.now) (slot_of (target kernel.now)) tile) kernel.now) }
+{
+    match *kernel {
+        Kernel::Least(_, from) => least_of_two(alloc, &tile, tile_at(cells, from)),
+        Kernel::Push(_, from, above) => push_to(tile, tile_at(cells, from), above),
+        _ => unreachable!(),
+    }
+}
+
+/// The tile of a kernel that changes its slot, changed.
+pub fn changed<K: Field>(
+    alloc: Global,
+    table: &[Line],
+    rank: u32,
+    cells: &Cells,
+    kernel: &Kernel,
+    tile: Tile,
+) -> Result<Tile, AllocError>
+    requires makes { makes kernel.now ≡ false }
+    requires sound { AreSound table.now }
+    requires residues { AreCellsOf K.MODULUS cells.now }
+    requires tile_words { IsTileOf K.MODULUS tile }
+    requires fit { IsFit K.MODULUS (setting_on K.MODULUS table.now) rank (with_slot (tiles_in cells.now) (slot_of (target kernel.now)) tile) kernel.now }
+    ensures { IfOk result (λ t. t ≡ made_by (setting_on K.MODULUS table.now) rank (with_slot (tiles_in cells.now) (slot_of (target kernel.now)) tile) kernel.now) }
+{
+    if !is_for_words(kernel) {
+        return change_numbers::<K>(alloc, table, rank, cells, kernel, tile);
+    }
+    match tile {
+        Tile::Words(mut dst) => {
+            change_words::<K>(alloc, table, rank, cells, kernel, &mut dst)?;
+            Ok(Tile::Words(dst))
+        }
+        Tile::Index(_) => unreachable!(),
+    }
+}

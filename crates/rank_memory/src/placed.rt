@@ -1,0 +1,75 @@
+//! Where the matrices of a script lie.
+ghost use Rattle.std.specs.Prelude.{◌≡◌, ℕ, ◌≤◌, ◌<◌, option_map, IsTrue};
+ghost use Rattle.array_desc.specs.Maps.{global};
+ghost use Rattle.blacs_grid.specs.Places.{is_member};
+ghost use Rattle.rank_machine.specs.Setting.{global_row};
+ghost use Rattle.rank_memory.specs.Places.{layout_of, placed_on, IsSound, find_placed};
+
+use array_desc::Desc;
+use blacs_grid::Grid;
+use script_lines::Line;
+
+/// The grid and the descriptor of the matrix that a line makes.
+#[derive(Clone, Copy)]
+pub struct Placed {
+    pub line: u32,
+    pub grid: Grid,
+    pub desc: Desc,
+}
+
+// Where the matrix of a line lies, if the line makes one.
+fn placed_on(entry: &Line) -> Option<Placed>
+    ensures { result ≡ option_map (placed_on entry.now.line) entry.now.makes }
+{
+    match entry.makes {
+        Some(at) => Some(Placed {
+            line: entry.line,
+            grid: at.grid,
+            desc: at.desc,
+        }),
+        None => None,
+    }
+}
+
+/// Where the matrix of a line lies, if the line makes one.
+pub fn find(table: &[Line], line: u32) -> Option<Placed>
+    ensures { result ≡ find_placed table.now line }
+{
+    for entry in table {
+        if entry.line == line {
+            return placed_on(entry);
+        }
+    }
+    None
+}
+
+/// The global row of a local row on a process row.
+pub fn global_of(placed: &Placed, row: u32, i: u32) -> u64
+    requires sound { IsSound placed.now }
+    requires row { row < placed.now.grid.p }
+    ensures { result ≡ global i placed.now.desc.mb row placed.now.desc.rsrc placed.now.grid.p }
+{
+    let procs = placed.grid.p;
+    let distance = (procs + row - placed.desc.rsrc) % procs;
+    let block = u64::from(i / placed.desc.mb) * u64::from(procs) + u64::from(distance);
+    block * u64::from(placed.desc.mb) + u64::from(i % placed.desc.mb)
+}
+
+/// How many of the first rows of a rank have a global row below a limit. Global rows rise with local ones.
+pub fn rows_below(placed: &Placed, rank: u32, rows: u32, limit: u64) -> u32
+    requires sound { IsSound placed.now }
+    requires member { IsTrue (is_member placed.now.grid rank) }
+    ensures most { result ≤ rows }
+    ensures below { (i : ℕ) → i < result → global_row (layout_of placed.now) rank i < limit }
+    ensures above { (i : ℕ) → result ≤ i → i < rows → limit ≤ global_row (layout_of placed.now) rank i }
+{
+    let row = match placed.grid.coords(rank) {
+        Some((row, _)) => row,
+        None => unreachable!(),
+    };
+    let mut count = 0;
+    while count < rows && global_of(placed, row, count) < limit {
+        count += 1;
+    }
+    count
+}
