@@ -1,5 +1,5 @@
 -- A panel of a whole matrix, which is cut into the panel and the columns left and right of it, and put together again.
-use Rattle.std.proofs.Common.{◌≡◌, ℕ, zero, suc, ◌+◌, ◌-◌, ◌<◌, ◌≤◌, ◌⊎◌, min, ◌==◌, if◌then◌else◌, List, [], length, get_or, refl, sym, ◌∙◌, ap, subst, arith, inl, inr}
+use Rattle.std.proofs.Common.{◌≡◌, ℕ, zero, suc, ◌+◌, ◌-◌, ◌<◌, ◌≤◌, ◌⊎◌, min, List, [], length, get_or, refl, sym, ◌∙◌, ap, subst, arith, inl, inr}
 use Rattle.std.proofs.Math.Path.{fun_ext}
 use Rattle.std.proofs.lemmas.Bool.{cases_lt}
 use Rattle.std.proofs.lemmas.Bool.Decides.{nat_tests}
@@ -13,9 +13,10 @@ use Rattle.serial_model.specs.Elimination.{Eliminated, eliminate_columns, untouc
 use Rattle.elimination.specs.Panels.{IsReady, AgreesOn, IsPanel, carried}
 use Rattle.elimination.specs.Whole.{AreRows, with_rows_exchanged, with_carried, strip_of, strip_state, whole_state}
 use Rattle.elimination.proofs.Steps.{step-agrees}
-use Rattle.elimination.proofs.PanelLaws.{ready-columns, columns-agree, columns-pivots, columns-split, column-carried_by, column-exchanged_by}
-use Rattle.elimination.proofs.Info.{info-is_test}
-use Rattle.elimination.proofs.Numbers.{columns-numbers}
+use Rattle.elimination.proofs.PanelLaws.{ready-columns, columns-agree, columns-split, column-carried_by, column-exchanged_by}
+use Rattle.elimination.proofs.Info.{least_zero-same, info-is_test}
+use Rattle.elimination.proofs.Numbers.{columns-count, columns-rows}
+use Rattle.elimination.proofs.Words.{ready_whole, ready-matrix}
 use Rattle.elimination.proofs.WholeSteps.{patched_in, patched_left}
 
 -- all rows of some columns
@@ -106,9 +107,6 @@ pub record IsDone (p : ℕ) (inverse : ℕ → ℕ) (a : Matrix) (v : List ℕ) 
   pub words : (i k : ℕ) → first ≤ k → k < end → entry panel i (k - first) ≡ (eliminate_columns p inverse a.rows first n (whole_state a v)).words i k
   pub pivots : w ≡ (eliminate_columns p inverse a.rows first n (whole_state a v)).pivots
 
-pub ready_whole : (p : ℕ) (a : Matrix) (v : List ℕ) (first : ℕ) → IsShaped a → AreWords p a → length v ≡ first → IsReady p a.rows first (whole_state a v)
-ready_whole p a v first shaped words count = record { below = words.below; past = λ i k h. entry-past a shaped i k h; count = count }
-
 pub panel_done : (p : ℕ) (inverse : ℕ → ℕ) (a panel0 panel : Matrix) (v w : List ℕ) (first end n : ℕ) → IsShaped a → AreWords p a → length v ≡ first → first ≤ end → n ≤ end - first → first + n ≤ a.rows → panel0 ≡ cut_columns a first end → panel ≡ strip_of panel0.rows (cols panel0) first (eliminate_columns p inverse panel0.rows first n (strip_state first panel0 v)).words → w ≡ (eliminate_columns p inverse panel0.rows first n (strip_state first panel0 v)).pivots → IsDone p inverse a v first end n panel w
 panel_done p inverse a panel0 panel v w first end n shaped words count ordered narrow inside cut made list =
     let m = a.rows in
@@ -151,25 +149,16 @@ panel-words p inverse a panel v w first end n shaped words count inside ordered 
     let back : first + j - first ≡ j = omega arith in
     subst (λ n. n < p) (sym (ap (entry panel i) (sym back) ∙ done.words i (first + j) (omega arith) (omega arith))) (ready.below i (first + j))))
 
--- its numbers are rows
-pub panel-rows : (p : ℕ) (inverse : ℕ → ℕ) (a panel : Matrix) (v w : List ℕ) (first end n : ℕ) → IsShaped a → AreWords p a → length v ≡ first → first + n ≤ a.rows → IsDone p inverse a v first end n panel w → AreRows w first n a.rows
-panel-rows p inverse a panel v w first end n shaped words count inside done =
-    let s = whole_state a v in
-    let ready : IsReady p a.rows first s = ready_whole p a v first shaped words count in
-    let u = eliminate_columns p inverse a.rows first n s in
-    let number : (k : ℕ) → get_or w k 0 ≡ get_or u.pivots k 0 = λ k. ap (λ v. get_or v k 0) done.pivots in
-    record {
-      from = λ k h1 h2. omega (arith, number k, columns-numbers p inverse a.rows first n s k inside ready h1 h2);
-      to = λ k h1 h2. omega (arith, number k, columns-numbers p inverse a.rows first n s k inside ready h1 h2, (columns-pivots p inverse a.rows first n s k inside ready h1 h2).1);
-    }
-
 pub rows_same : (v w : List ℕ) (first n m k : ℕ) → v ≡ w → k ≡ m → AreRows w first n m → AreRows v first n k
 rows_same v w first n m k ev ek rows = record { from = λ j h1 h2. omega (arith, rows.from j h1 h2, ap (λ v. get_or v j 0) ev); to = λ j h1 h2. omega (arith, rows.to j h1 h2, ap (λ v. get_or v j 0) ev) }
 
-pub panel-count : (p : ℕ) (inverse : ℕ → ℕ) (a panel : Matrix) (v w : List ℕ) (first end n : ℕ) → IsShaped a → AreWords p a → length v ≡ first → first + n ≤ a.rows → IsDone p inverse a v first end n panel w → length w ≡ first + n
-panel-count p inverse a panel v w first end n shaped words count inside done =
-    let ready : IsReady p a.rows (first + n) (eliminate_columns p inverse a.rows first n (whole_state a v)) = ready-columns p inverse a.rows first n (whole_state a v) inside (ready_whole p a v first shaped words count) in
-    ap length done.pivots ∙ ready.count
+-- its numbers are rows
+pub panel-rows : (p : ℕ) (inverse : ℕ → ℕ) (a panel : Matrix) (v w : List ℕ) (first end n : ℕ) → length v ≡ first → first + n ≤ a.rows → IsDone p inverse a v first end n panel w → AreRows w first n a.rows
+panel-rows p inverse a panel v w first end n count inside done =
+    rows_same w (eliminate_columns p inverse a.rows first n (whole_state a v)).pivots first n a.rows a.rows done.pivots refl (columns-rows p inverse a.rows first n (whole_state a v) inside count)
+
+pub panel-count : (p : ℕ) (inverse : ℕ → ℕ) (a panel : Matrix) (v w : List ℕ) (first end n : ℕ) → length v ≡ first → first + n ≤ a.rows → IsDone p inverse a v first end n panel w → length w ≡ first + n
+panel-count p inverse a panel v w first end n count inside done = ap length done.pivots ∙ columns-count p inverse a.rows first n (whole_state a v) inside ∙ ap (λ c. c + n) count
 
 -- three pieces that were copied over all columns
 pub joined : (a panel left right a1 a2 a3 : Matrix) (own before after own_all left_all right_all : Part) (first end q ql qr : ℕ) (f : ℕ → ℕ → ℕ) → first ≤ end → end ≤ cols a → own ≡ columns_part a.rows first end → before ≡ columns_part a.rows 0 first → after ≡ columns_part a.rows end (cols a) → own_all ≡ columns_part q 0 (end - first) → left_all ≡ columns_part ql 0 first → right_all ≡ columns_part qr 0 (cols a - end) → a1 ≡ with_copy a own panel own_all → a2 ≡ with_copy a1 before left left_all → a3 ≡ with_copy a2 after right right_all → ((i k : ℕ) → i < a.rows → first ≤ k → k < end → entry panel i (k - first) ≡ f i k) → ((i k : ℕ) → i < a.rows → k < first → entry left i k ≡ f i k) → ((i k : ℕ) → i < a.rows → end ≤ k → k < cols a → entry right i (k - end) ≡ f i k) → a3 ≡ tabulate a.rows (cols a) f
@@ -248,7 +237,7 @@ so_far p inverse a0 first = eliminate_columns p inverse a0.rows 0 first (untouch
 pub ready_so_far : (p : ℕ) (inverse : ℕ → ℕ) (a0 : Matrix) (first : ℕ) → IsShaped a0 → AreWords p a0 → first ≤ a0.rows → IsReady p a0.rows first (so_far p inverse a0 first)
 ready_so_far p inverse a0 first shaped words inside =
     let at : 0 + first ≡ first = omega arith in
-    rw at at (ready-columns p inverse a0.rows 0 first (untouched (entry a0)) (omega arith) (record { below = words.below; past = λ i k h. entry-past a0 shaped i k h; count = refl }))
+    rw at at (ready-columns p inverse a0.rows 0 first (untouched (entry a0)) (omega arith) (ready-matrix p a0 shaped words))
 
 pub starts : (p : ℕ) (inverse : ℕ → ℕ) (a0 : Matrix) → IsShaped a0 → a0 ≡ tabulate a0.rows (cols a0) (so_far p inverse a0 0).words
 unfolding eliminate_columns
@@ -313,14 +302,6 @@ pub all_are_elimination : (p : ℕ) (inverse : ℕ → ℕ) (a0 : Matrix) (first
 unfolding elimination
 all_are_elimination p inverse a0 first e = ap (so_far p inverse a0) e
 
-least_zero-same : (c d : ℕ → ℕ) (n : ℕ) → ((i : ℕ) → i < n → c i ≡ d i) → least_zero c n ≡ least_zero d n
-unfolding least_zero
-least_zero-same c d zero same = refl
-least_zero-same c d (suc n) same =
-    let before : least_zero c n ≡ least_zero d n = least_zero-same c d n (λ i h. same i (omega arith)) in
-    let here : c n ≡ d n = same n (omega arith) in
-    ap (λ b. if b == 0 then (if c n == 0 then n + 1 else 0) else b) before ∙ ap (λ y. if least_zero d n == 0 then (if y == 0 then n + 1 else 0) else least_zero d n) here
-
 pub info_is : (p : ℕ) (inverse : ℕ → ℕ) (a0 a : Matrix) (last : ℕ) → IsShaped a0 → AreWords p a0 → last ≡ min a0.rows (cols a0) → a ≡ tabulate a0.rows (cols a0) (elimination p inverse a0.rows (cols a0) (entry a0)).words → least_zero (diagonal (entry a)) last ≡ (elimination p inverse a0.rows (cols a0) (entry a0)).info
 info_is p inverse a0 a last shaped words elast e =
     let m = a0.rows in
@@ -328,4 +309,4 @@ info_is p inverse a0 a last shaped words elast e =
     let u = elimination p inverse m c (entry a0) in
     least_zero-same (diagonal (entry a)) (diagonal u.words) last (λ i h. ap (λ a. entry a i i) e ∙ entry-tabulate m c u.words i i (omega arith) (omega arith))
     ∙ ap (least_zero (diagonal u.words)) elast
-    ∙ sym (info-is_test p inverse m c (entry a0) (record { below = words.below; past = λ i k h. entry-past a0 shaped i k h; count = refl }))
+    ∙ sym (info-is_test p inverse m c (entry a0) (ready-matrix p a0 shaped words))

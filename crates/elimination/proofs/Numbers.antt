@@ -1,49 +1,73 @@
--- The numbers of pivots: they count from 1, so each is one more than its row.
-use Rattle.std.proofs.Common.{◌≡◌, ℕ, zero, suc, ◌+◌, ◌-◌, ◌<◌, ◌≤◌, List, [], ◌∷◌, ◌++◌, length, get_or, Option, Some, None, sym, ◌∙◌, ap, arith, inl, inr, subst}
+-- The numbers of pivots: one for each column that was eliminated, and each the number, from 1, of a row at or below the diagonal. Nothing is asked of the words.
+use Rattle.std.proofs.Common.{◌≡◌, ℕ, zero, suc, ◌+◌, ◌-◌, ◌<◌, ◌≤◌, min, List, [], ◌∷◌, ◌++◌, length, get_or, Option, Some, None, refl, ◌∙◌, ap, arith, inl, inr, length-append}
 use Rattle.std.proofs.lemmas.List.{get_or_append_left, get_or-append_right}
 use Rattle.std.proofs.lemmas.Bool.{cases_lt}
-use Rattle.serial_model.specs.Elimination.{pivot_from, Eliminated, with_pivot, eliminate_column, eliminate_columns, pivot_row}
-use Rattle.elimination.specs.Panels.{IsReady}
-use Rattle.elimination.proofs.PanelLaws.{ready-columns, columns-pivots}
+use Rattle.serial_model.specs.Elimination.{pivot_from, Eliminated, with_pivot, eliminate_column, eliminate_columns, untouched, elimination}
+use Rattle.elimination.specs.Whole.{AreRows}
+use Rattle.elimination.proofs.Steps.{IsPivot, pivot_from-is}
 
-appended : (v : List ℕ) (j x k : ℕ) → length v ≡ j → k ≤ j → 0 < x → (k < j → 0 < get_or v k 0) → 0 < get_or (v ++ (x ∷ [])) k 0
-appended v j x k e h pos_x before =
+-- a list and one number more, from j + 1 to m
+record IsNext (m j : ℕ) (v w : List ℕ) : Type 0 where
+  number : ℕ
+  is : w ≡ v ++ (number ∷ [])
+  from : j + 1 ≤ number
+  to : number ≤ m
+
+-- column j adds such a number
+column-number : (p : ℕ) (inverse : ℕ → ℕ) (m j : ℕ) (s : Eliminated) → j < m → IsNext m j s.pivots (eliminate_column p inverse m j s).pivots
+unfolding eliminate_column with_pivot IsPivot
+column-number p inverse m j s h = by_pivot (pivot_from (λ i. s.words i j) j (m - j)) (pivot_from-is (λ i. s.words i j) j (m - j) m (omega arith))
+  where
+    by_pivot : (o : Option ℕ) → IsPivot (λ i. s.words i j) j m o → IsNext m j s.pivots (with_pivot p inverse j s o).pivots
+    by_pivot None known = record { number = j + 1; is = refl; from = omega arith; to = omega arith }
+    by_pivot (Some r) known = record { number = r + 1; is = refl; from = omega (arith, known.0); to = omega (arith, known.1) }
+
+-- each column adds a number
+pub columns-count : (p : ℕ) (inverse : ℕ → ℕ) (m first n : ℕ) (s : Eliminated) → first + n ≤ m → length (eliminate_columns p inverse m first n s).pivots ≡ length s.pivots + n
+unfolding eliminate_columns
+columns-count p inverse m first zero s h = omega arith
+columns-count p inverse m first (suc n) s h =
+    let t = eliminate_columns p inverse m first n s in
+    let next = column-number p inverse m (first + n) t (omega arith) in
+    omega (arith, ap length next.is, length-append t.pivots (next.number ∷ []), columns-count p inverse m first n s (omega arith))
+
+number_next : (m j k : ℕ) (v w : List ℕ) → IsNext m j v w → length v ≡ j → k ≤ j → (k < j → (k + 1 ≤ get_or v k 0) × (get_or v k 0 ≤ m)) → (k + 1 ≤ get_or w k 0) × (get_or w k 0 ≤ m)
+number_next m j k v w next count h before =
     elim (cases_lt k j) [
-      | inl earlier ↦ subst (λ n. 0 < n) (sym (get_or_append_left v (x ∷ []) 0 k (omega arith))) (before earlier)
+      | inl earlier ↦
+          (let same : get_or w k 0 ≡ get_or v k 0 = ap (λ v. get_or v k 0) next.is ∙ get_or_append_left v (next.number ∷ []) 0 k (omega arith) in
+          let known = before earlier in
+          (omega (arith, same, known.0), omega (arith, same, known.1)))
       | inr from ↦
           (let zero_left : k - j ≡ 0 = omega arith in
-          subst (λ n. 0 < n) (sym (get_or-append_right v (x ∷ []) j k 0 e (omega arith) ∙ ap (λ n. get_or (x ∷ []) n 0) zero_left)) pos_x)
+          let same : get_or w k 0 ≡ next.number =
+          ap (λ v. get_or v k 0) next.is ∙ get_or-append_right v (next.number ∷ []) j k 0 count (omega arith) ∙ ap (λ n. get_or (next.number ∷ []) n 0) zero_left in
+          (omega (arith, same, next.from), omega (arith, same, next.to)))
     ]
 
-step-positive : (p : ℕ) (inverse : ℕ → ℕ) (m j : ℕ) (s : Eliminated) (k : ℕ) → length s.pivots ≡ j → k ≤ j → (k < j → 0 < get_or s.pivots k 0) → 0 < get_or (eliminate_column p inverse m j s).pivots k 0
-unfolding eliminate_column with_pivot
-step-positive p inverse m j s k e h before = by_pivot (pivot_from (λ i. s.words i j) j (m - j))
-  where
-    by_pivot : (o : Option ℕ) → 0 < get_or (with_pivot p inverse j s o).pivots k 0
-    by_pivot None = appended s.pivots j (j + 1) k e h (omega arith) before
-    by_pivot (Some r) = appended s.pivots j (r + 1) k e h (omega arith) before
-
-columns-positive : (p : ℕ) (inverse : ℕ → ℕ) (m first n : ℕ) (s : Eliminated) (k : ℕ) → first + n ≤ m → IsReady p m first s → first ≤ k → k < first + n → 0 < get_or (eliminate_columns p inverse m first n s).pivots k 0
+-- the number of the pivot of column k is from k + 1 to the number of rows
+pub columns-in_range : (p : ℕ) (inverse : ℕ → ℕ) (m first n : ℕ) (s : Eliminated) (k : ℕ) → first + n ≤ m → length s.pivots ≡ first → first ≤ k → k < first + n → (k + 1 ≤ get_or (eliminate_columns p inverse m first n s).pivots k 0) × (get_or (eliminate_columns p inverse m first n s).pivots k 0 ≤ m)
 unfolding eliminate_columns
-columns-positive p inverse m first zero s k h ready h1 h2 = absurd (omega arith)
-columns-positive p inverse m first (suc n) s k h ready h1 h2 =
-    let before : IsReady p m (first + n) (eliminate_columns p inverse m first n s) = ready-columns p inverse m first n s (omega arith) ready in
-    step-positive p inverse m (first + n) (eliminate_columns p inverse m first n s) k before.count (omega arith)
-    (λ earlier. columns-positive p inverse m first n s k (omega arith) ready h1 earlier)
+columns-in_range p inverse m first zero s k h count h1 h2 = absurd (omega arith)
+columns-in_range p inverse m first (suc n) s k h count h1 h2 =
+    let t = eliminate_columns p inverse m first n s in
+    number_next m (first + n) k t.pivots (eliminate_columns p inverse m first (suc n) s).pivots (column-number p inverse m (first + n) t (omega arith))
+    (omega (arith, columns-count p inverse m first n s (omega arith), count)) (omega arith) (λ earlier. columns-in_range p inverse m first n s k (omega arith) count h1 earlier)
 
-positive_row : (v : List ℕ) (k : ℕ) → 0 < get_or v k 0 → get_or v k 0 ≡ pivot_row v k + 1
-unfolding pivot_row
-positive_row v k h = omega arith
+-- so the list names rows
+pub columns-rows : (p : ℕ) (inverse : ℕ → ℕ) (m first n : ℕ) (s : Eliminated) → first + n ≤ m → length s.pivots ≡ first → AreRows (eliminate_columns p inverse m first n s).pivots first n m
+columns-rows p inverse m first n s h count =
+    record {
+      from = λ k h1 h2. omega (arith, (columns-in_range p inverse m first n s k h count h1 h2).0);
+      to = λ k h1 h2. (columns-in_range p inverse m first n s k h count h1 h2).1;
+    }
 
--- the number of a pivot is one more than its row
-pub columns-numbers : (p : ℕ) (inverse : ℕ → ℕ) (m first n : ℕ) (s : Eliminated) (k : ℕ) → first + n ≤ m → IsReady p m first s → first ≤ k → k < first + n → get_or (eliminate_columns p inverse m first n s).pivots k 0 ≡ pivot_row (eliminate_columns p inverse m first n s).pivots k + 1
-columns-numbers p inverse m first n s k h ready h1 h2 = positive_row (eliminate_columns p inverse m first n s).pivots k (columns-positive p inverse m first n s k h ready h1 h2)
+-- a whole elimination has as many pivots as there are rows, or columns where these are fewer
+pub elimination-count : (p : ℕ) (inverse : ℕ → ℕ) (m n : ℕ) (a : ℕ → ℕ → ℕ) → length (elimination p inverse m n a).pivots ≡ min m n
+unfolding elimination
+elimination-count p inverse m n a = omega (arith, columns-count p inverse m 0 (min m n) (untouched a) (omega arith))
 
--- so it is from k + 1 to the number of rows
-pub columns-in_range : (p : ℕ) (inverse : ℕ → ℕ) (m first n : ℕ) (s : Eliminated) (k : ℕ) → first + n ≤ m → IsReady p m first s → first ≤ k → k < first + n → (k + 1 ≤ get_or (eliminate_columns p inverse m first n s).pivots k 0) × (get_or (eliminate_columns p inverse m first n s).pivots k 0 ≤ m)
-columns-in_range p inverse m first n s k h ready h1 h2 =
-    let number : get_or (eliminate_columns p inverse m first n s).pivots k 0 ≡ pivot_row (eliminate_columns p inverse m first n s).pivots k + 1 = columns-numbers p inverse m first n s k h ready h1 h2 in
-    let row = columns-pivots p inverse m first n s k h ready h1 h2 in
-    let from : k ≤ pivot_row (eliminate_columns p inverse m first n s).pivots k = row.0 in
-    let below : pivot_row (eliminate_columns p inverse m first n s).pivots k < m = row.1 in
-    (omega arith, omega arith)
+-- and they are rows
+pub elimination-rows : (p : ℕ) (inverse : ℕ → ℕ) (m n : ℕ) (a : ℕ → ℕ → ℕ) → AreRows (elimination p inverse m n a).pivots 0 (min m n) m
+unfolding elimination
+elimination-rows p inverse m n a = columns-rows p inverse m 0 (min m n) (untouched a) (omega arith) refl

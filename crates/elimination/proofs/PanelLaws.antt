@@ -7,6 +7,7 @@ use Rattle.elimination.specs.Panels.{IsReady, AgreesOn, IsPanel, reduced, carrie
 use Rattle.elimination.proofs.Exchanges.{KeepsBelow-swapped, lose, updated, updated-commutes, updated-same, came_from-same}
 use Rattle.elimination.proofs.Steps.{IsStep, step-of, ready-step, step-agrees, step-info}
 use Rattle.elimination.proofs.Reductions.{updated-is, reduced-same}
+use Rattle.elimination.proofs.Numbers.{columns-in_range}
 
 pub ready-columns : (p : ℕ) (inverse : ℕ → ℕ) (m first n : ℕ) (s : Eliminated) → first + n ≤ m → IsReady p m first s → IsReady p m (first + n) (eliminate_columns p inverse m first n s)
 unfolding eliminate_columns
@@ -172,15 +173,10 @@ panels-are_elimination p inverse m n nb t a ready h1 h2 =
 
 -- each pivot's row is at or below the diagonal, and in the matrix
 pub columns-pivots : (p : ℕ) (inverse : ℕ → ℕ) (m first n : ℕ) (s : Eliminated) (k : ℕ) → first + n ≤ m → IsReady p m first s → first ≤ k → k < first + n → (k ≤ pivot_row (eliminate_columns p inverse m first n s).pivots k) × (pivot_row (eliminate_columns p inverse m first n s).pivots k < m)
-columns-pivots p inverse m first zero s k h ready h1 h2 = absurd (omega arith)
-columns-pivots p inverse m first (suc n) s k h ready h1 h2 =
-    let t = eliminate_columns p inverse m first n s in
-    let u = eliminate_columns p inverse m first (suc n) s in
-    let st : IsStep p m (first + n) t u = step-at p inverse m first n s h ready in
-    elim (cases_lt k (first + n)) [
-      | inl earlier ↦ (rw (st.earlier k earlier) (columns-pivots p inverse m first n s k (omega arith) ready h1 earlier))
-      | inr last ↦ (let e : k ≡ first + n = omega arith in rw e ((st.pivot_from, st.pivot_below)))
-    ]
+unfolding pivot_row
+columns-pivots p inverse m first n s k h ready h1 h2 =
+    let number = columns-in_range p inverse m first n s k h ready.count h1 h2 in
+    (omega (arith, number.0), omega (arith, number.0, number.1))
 
 -- what column_is_carried and column_left_is_exchanged say, from the panel's words and pivots
 pub column-carried_by : (p : ℕ) (inverse : ℕ → ℕ) (m first n : ℕ) (s : Eliminated) (l : ℕ → ℕ → ℕ) (v : List ℕ) (i k : ℕ) → first + n ≤ m → IsReady p m first s → IsPanel first n (eliminate_columns p inverse m first n s) l v → first + n ≤ k → (eliminate_columns p inverse m first n s).words i k ≡ carried p inverse l v first n (λ r. s.words r k) i

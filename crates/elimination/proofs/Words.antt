@@ -1,4 +1,4 @@
-use Rattle.std.proofs.Common.{◌≡◌, ℕ, suc, ◌+◌, ◌-◌, ◌*◌, ◌%◌, ◌<◌, ◌≤◌, ◌==◌, min, Bool, true, false, if◌then◌else◌, nat_lt, List, refl, ◌∙◌, ap, arith, inl, inr, eq-eqb}
+use Rattle.std.proofs.Common.{◌≡◌, ℕ, suc, ◌+◌, ◌-◌, ◌*◌, ◌%◌, ◌<◌, ◌≤◌, ◌==◌, min, Bool, true, false, if◌then◌else◌, nat_lt, List, [], length, refl, ◌∙◌, ap, arith, inl, inr, eq-eqb}
 use Rattle.std.proofs.Math.Nat.{mod-lt}
 use Rattle.std.proofs.lemmas.Bool.{cases_lt, lt-ltb, le-ltb, ne_eqb}
 use Rattle.field_core.proofs.Modular.{same_mod}
@@ -8,6 +8,7 @@ use Rattle.local_blas.specs.Kernels.{swapped}
 use Rattle.local_blas.proofs.Solutions.{solution-below}
 use Rattle.serial_model.specs.Elimination.{divide, subtract, Eliminated, eliminate_columns, untouched, elimination, pivot_row, came_from, exchanged}
 use Rattle.elimination.specs.Panels.{IsReady, reduced, carried}
+use Rattle.elimination.specs.Whole.{whole_state}
 use Rattle.elimination.proofs.PanelLaws.{ready-columns, columns-pivots, column-carried}
 use Rattle.elimination.proofs.CodeLaws.{reduced-zero}
 
@@ -85,9 +86,13 @@ zero-column p inverse m first n s i k h ready hk zeros =
     column-carried p inverse m first n s i k h ready hk
     ∙ carried-zero p inverse (eliminate_columns p inverse m first n s).words (eliminate_columns p inverse m first n s).pivots first n (λ r. s.words r k) i (omega (arith, ready.below 0 0)) zeros
 
--- the words of a matrix are ready for elimination
+-- the words of a matrix are ready for what is left of an elimination after some pivots
+pub ready_whole : (p : ℕ) (a : Matrix) (v : List ℕ) (first : ℕ) → IsShaped a → AreWords p a → length v ≡ first → IsReady p a.rows first (whole_state a v)
+ready_whole p a v first shaped words count = record { below = words.below; past = λ i k h. entry-past a shaped i k h; count = count }
+
+-- and for all of it
 pub ready-matrix : (p : ℕ) (a : Matrix) → IsShaped a → AreWords p a → IsReady p a.rows 0 (untouched (entry a))
-ready-matrix p a shaped words = record { below = words.below; past = λ i k h. entry-past a shaped i k h; count = refl }
+ready-matrix p a shaped words = ready_whole p a [] 0 shaped words refl
 
 -- the elimination gives words, zeros past the rows, and as many pivots as columns were eliminated
 pub elimination-ready : (p : ℕ) (inverse : ℕ → ℕ) (m n : ℕ) (a : ℕ → ℕ → ℕ) → IsReady p m 0 (untouched a) → IsReady p m (min m n) (elimination p inverse m n a)

@@ -1,6 +1,6 @@
 //! Elimination by panels of columns is elimination by columns.
 
-ghost use Rattle.std.specs.Prelude.{◌≡◌, ◌≢◌, ℕ, ◌+◌, ◌*◌, ◌<◌, ◌≤◌, min, slice_index, List};
+ghost use Rattle.std.specs.Prelude.{◌≡◌, ◌≢◌, ℕ, ◌+◌, ◌*◌, ◌<◌, ◌≤◌, min, slice_index, List, length};
 ghost use Rattle.serial_model.specs.Elimination.{Eliminated, eliminate_columns, untouched, elimination, least_zero, diagonal, pivot_row, exchanged};
 ghost use Rattle.elimination.specs.Panels.{IsReady, AgreesOn, IsPanel, carried, eliminate_panel, eliminate_panels, panel_of};
 
@@ -100,9 +100,9 @@ pub fn pivots_are_rows()
 {}
 
 /// The numbers of the pivots count from 1: that of the k-th is from k to the number of rows, so
-/// none is 0.
+/// none is 0. This asks nothing of the words.
 pub fn pivots_have_numbers()
     ensures { (p : ℕ) (inverse : ℕ → ℕ) (m first n : ℕ) (s : Eliminated) (k : ℕ) →
-        first + n ≤ m → IsReady p m first s → first ≤ k → k < first + n →
+        first + n ≤ m → length s.pivots ≡ first → first ≤ k → k < first + n →
         (k + 1 ≤ slice_index (eliminate_columns p inverse m first n s).pivots k) × (slice_index (eliminate_columns p inverse m first n s).pivots k ≤ m) }
 {}

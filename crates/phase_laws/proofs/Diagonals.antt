@@ -12,8 +12,10 @@ use Rattle.array_desc.proofs.GroupLaws.{block_in-group_of, group_of_column-lt}
 use Rattle.blacs_grid.specs.Places.{rank_at, row_of, col_of}
 use Rattle.blacs_grid.proofs.PlaceLaws.{row_of-rank_at, col_of-rank_at}
 use Rattle.rank_machine.specs.declared.slot.SlotKind.TheVariants.{Data}
+use Rattle.rank_machine.specs.declared.slot.Slot.{Slot}
+use Rattle.rank_machine.specs.declared.slot.Piece.{Piece}
 use Rattle.rank_machine.specs.Setting.{Layout, Setting, layout}
-use Rattle.rank_machine.specs.Effect.{Memory, none_number, words_of, number_if, is_zero_here}
+use Rattle.rank_machine.specs.Effect.{Memory, none_number, words_of, slot_of, least_of, number_if, is_zero_here}
 use Rattle.rank_machine.specs.CodeLaw.{slot_at}
 use Rattle.serial_model.specs.Elimination.{least_zero, diagonal}
 use Rattle.elimination.specs.Strips.{row_owner, row_place}
@@ -96,9 +98,13 @@ number_least false n v h each = h
 number_true : (b : Bool) (n : ℕ) → b ≡ true → number_if b n ≡ n
 number_true b n e = ap (λ c. number_if c n) e
 
--- the least of what all data ranks find is INFO's number
-pub least-info : (s : Setting) (line : ℕ) (a : ℕ → ℕ → ℕ) (mem : ℕ → ℕ → Memory) (n found : ℕ) → IsDesc (layout s line).grid.p (layout s line).grid.q (layout s line).desc → HoldMatrix (layout s line) line a mem → n ≤ min (layout s line).desc.m (layout s line).desc.n → IsLeastOf ((layout s line).grid.p * (layout s line).grid.q) (λ k. zero_found s line mem n (k / (layout s line).grid.q) (k % (layout s line).grid.q)) found → found ≡ info_number (least_zero (diagonal a) n)
-least-info s line a mem n found desc hold hn least = by_zero (first_zero (diagonal a) n)
+-- what a rank's test of a word of the diagonal gives
+abbrev word_number : Setting → ℕ → (ℕ → ℕ → Memory) → ℕ → ℕ → ℕ → ℕ
+word_number s line mem row col i = number_if (is_zero_here s (rank_at (layout s line).grid row col) (mem col row) line i) (i + 1)
+
+-- the least of what all data ranks find among the first n words is INFO's number
+least-number : (s : Setting) (line : ℕ) (a : ℕ → ℕ → ℕ) (mem : ℕ → ℕ → Memory) (n found : ℕ) → IsDesc (layout s line).grid.p (layout s line).grid.q (layout s line).desc → HoldMatrix (layout s line) line a mem → n ≤ min (layout s line).desc.m (layout s line).desc.n → IsLeastOf ((layout s line).grid.p * (layout s line).grid.q) (λ k. least_of n (word_number s line mem (k / (layout s line).grid.q) (k % (layout s line).grid.q))) found → found ≡ info_number (least_zero (diagonal a) n)
+least-number s line a mem n found desc hold hn least = by_zero (first_zero (diagonal a) n)
   where
     some_q : 0 < (layout s line).grid.q
     some_q = omega (arith, desc.column_source)
@@ -109,8 +115,8 @@ least-info s line a mem n found desc hold hn least = by_zero (first_zero (diagon
         let x = least.among in
         let row = x.0 / d.grid.q in
         let col = x.0 % d.grid.q in
-        let lower : v ≤ zero_found s line mem n row col =
-        least_of-from n (λ i. number_if (is_zero_here s (rank_at d.grid row col) (mem col row) line i) (i + 1)) v small
+        let lower : v ≤ least_of n (word_number s line mem row col) =
+        least_of-from n (word_number s line mem row col) v small
         (λ i hi. number_least (is_zero_here s (rank_at d.grid row col) (mem col row) line i) (i + 1) v small
         (λ is. bound i hi (here_true s line a mem row col i desc hold (mod-lt x.0 some_q) (omega arith) (omega arith) is))) in
         subst (λ w. v ≤ w) x.2 lower)
@@ -123,7 +129,7 @@ least-info s line a mem n found desc hold hn least = by_zero (first_zero (diagon
         (let d = layout s line in
         let lower : none_number ≤ found = each none_number (omega arith) (λ i hi z. absurd (none i hi z)) in
         let x = least.among in
-        let upper : found ≤ none_number = subst (λ w. w ≤ none_number) x.2 (least_of-none n (λ i. number_if (is_zero_here s (rank_at d.grid (x.0 / d.grid.q) (x.0 % d.grid.q)) (mem (x.0 % d.grid.q) (x.0 / d.grid.q)) line i) (i + 1))) in
+        let upper : found ≤ none_number = subst (λ w. w ≤ none_number) x.2 (least_of-none n (word_number s line mem (x.0 / d.grid.q) (x.0 % d.grid.q))) in
         let same : found ≡ none_number = omega arith in
         same ∙ sym (ap info_number (least_zero-none (diagonal a) n none)))
     by_zero (zero_at i hi z before) =
@@ -138,10 +144,16 @@ least-info s line a mem n found desc hold hn least = by_zero (first_zero (diagon
         let k_row : k / d.grid.q ≡ row = div-mul-add row d.grid.q col col_in in
         let k_col : k % d.grid.q ≡ col = mod-mul-add row d.grid.q col col_in in
         let lower : i + 1 ≤ found = each (i + 1) (omega arith) (λ j hj zj. before_or_at i j zj before) in
-        let mine : zero_found s line mem n row col ≤ i + 1 =
-        subst (λ w. zero_found s line mem n row col ≤ w) (number_true (is_zero_here s (rank_at d.grid row col) (mem col row) line i) (i + 1) (here_at_owner s line a mem i desc hold (omega arith) (omega arith) z))
-        (least_of-le n (λ i. number_if (is_zero_here s (rank_at d.grid row col) (mem col row) line i) (i + 1)) i hi) in
-        let upper : found ≤ zero_found s line mem n row col = subst (λ w. found ≤ w) (ap (λ r. zero_found s line mem n r (k % d.grid.q)) k_row ∙ ap (zero_found s line mem n row) k_col) (least.below k k_in) in
+        let mine : least_of n (word_number s line mem row col) ≤ i + 1 =
+        subst (λ w. least_of n (word_number s line mem row col) ≤ w) (number_true (is_zero_here s (rank_at d.grid row col) (mem col row) line i) (i + 1) (here_at_owner s line a mem i desc hold (omega arith) (omega arith) z))
+        (least_of-le n (word_number s line mem row col) i hi) in
+        let upper : found ≤ least_of n (word_number s line mem row col) = subst (λ w. found ≤ w) (ap (λ r. least_of n (word_number s line mem r (k % d.grid.q))) k_row ∙ ap (λ c. least_of n (word_number s line mem row c)) k_col) (least.below k k_in) in
         let same : found ≡ i + 1 = omega arith in
         let t : (i + 1 == 0) ≡ false = ne_eqb (i + 1) 0 (omega arith) in
         same ∙ sym (ap info_number (least_zero-first (diagonal a) n i hi z before) ∙ ap (λ b. if b then none_number else i + 1) t))
+
+-- so is the least of what they find by the kernel, which looks at no more words than the diagonal has
+pub least-info : (s : Setting) (to : Slot) (from : Piece) (a : ℕ → ℕ → ℕ) (mem : ℕ → ℕ → Memory) (n count found : ℕ) → IsDesc (layout s (slot_of from).id).grid.p (layout s (slot_of from).id).grid.q (layout s (slot_of from).id).desc → HoldMatrix (layout s (slot_of from).id) (slot_of from).id a mem → count ≡ min n (min (layout s (slot_of from).id).desc.m (layout s (slot_of from).id).desc.n) → IsLeastOf ((layout s (slot_of from).id).grid.p * (layout s (slot_of from).id).grid.q) (λ k. zero_found s to from mem n (k / (layout s (slot_of from).id).grid.q) (k % (layout s (slot_of from).id).grid.q)) found → found ≡ info_number (least_zero (diagonal a) count)
+least-info s to from a mem n count found desc hold e least =
+    let d = layout s (slot_of from).id in
+    least-number s (slot_of from).id a mem (min n (min d.desc.m d.desc.n)) found desc hold (omega arith) least ∙ ap (λ k. info_number (least_zero (diagonal a) k)) (sym e)

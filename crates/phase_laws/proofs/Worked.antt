@@ -1,13 +1,13 @@
 -- A worked state: three by three words modulo 7 in blocks of one on two process rows, two data columns and a code column, in the midst of a
 -- factorization: the panel of column 0 is closed, and that of column 1 is open. The code was worked out by hand, with the weights 4 and 1.
-use Rattle.std.proofs.Common.{◌≡◌, ℕ, ◌*◌, ◌%◌, ◌==◌, ◌&&◌, true, false, if◌then◌else◌, Option, Some, None, List, [], ◌∷◌, length, refl, arith, inl, inr}
+use Rattle.std.proofs.Common.{◌≡◌, ℕ, ◌*◌, ◌/◌, ◌%◌, ◌==◌, ◌&&◌, true, false, if◌then◌else◌, Option, Some, None, List, [], ◌∷◌, length, refl, arith, inl, inr}
 use Rattle.field_core.specs.Sums.{sum_to}
 use Rattle.field_core.proofs.Computing.{quick_inverse, inverse_walk}
 use Rattle.run_data.specs.Matrix.{entry, tabulate}
 use Rattle.array_desc.specs.Descriptors.{desc_of, IsDesc}
 use Rattle.blacs_grid.specs.Places.{rank_at}
 use Rattle.rank_machine.specs.declared.slot.SlotKind.{SlotKind}
-use Rattle.rank_machine.specs.declared.slot.SlotKind.TheVariants.{Data, Code, Low, Open}
+use Rattle.rank_machine.specs.declared.slot.SlotKind.TheVariants.{Data, Code, Low, Open, Work}
 use Rattle.rank_machine.specs.declared.slot.Slot.{Slot}
 use Rattle.rank_machine.specs.declared.slot.Tile.{Tile}
 use Rattle.rank_machine.specs.declared.slot.Tile.TheVariants.{Words}
@@ -18,13 +18,13 @@ use Rattle.rank_machine.specs.State.{State, same_slot}
 use Rattle.rank_machine.specs.Effect.{Memory, piece_in, with_piece, first_row}
 use Rattle.rank_machine.specs.CodeLaw.{slot_at, MatrixLaw}
 use Rattle.rank_machine.proofs.Agree.{MatrixLaw-from_test}
-use Rattle.serial_model.specs.Elimination.{pivot_from}
+use Rattle.serial_model.specs.Elimination.{pivot_from, least_zero}
 use Rattle.elimination.specs.CodeLaw.{low_part, open_part, stage_at}
 use Rattle.phase_laws.specs.Columns.{data_columns, code_column, low_column, open_column, weights, columns_of, stages_of, IsGroupCoded, rows_of, column_memory, strips_in}
 use Rattle.std.proofs.lemmas.Bool.{cases_eq}
 use Rattle.run_data.specs.Parts.{patched}
 use Rattle.elimination.specs.Strips.{AreExchanged, held, one_row}
-use Rattle.phase_laws.specs.Search.{number_found}
+use Rattle.phase_laws.specs.Search.{number_found, zero_found, info_number}
 use Rattle.phase_laws.proofs.Columns.{strips-hold}
 use Rattle.phase_laws.proofs.CodeLaws.{law-coded}
 use Rattle.phase_laws.proofs.KernelLaws.{rows-sent}
@@ -154,6 +154,21 @@ found_by_rows = refl
 found_in_column : number_found (pivot_from (data_columns state 2 layout_2 1 0 0) 2 1) ≡ 3
 unfolding entry pivot_from
 found_in_column = refl
+
+-- the test of the diagonal where its second word is 0, asked for more words than there are: the rank at process row 1 and column 1, whose word it is, finds the number 2, the others none, and INFO is 2
+abbrev with_zero : ℕ → ℕ → Memory
+with_zero col row = find (held_by 4 Data 0 (0 ∷ []) ∷ tiles) (rank_at layout_2.grid row col)
+
+abbrev zero_at : ℕ → ℕ → ℕ
+zero_at row col = zero_found setting (slot_at Work 0 0) (piece.Whole (slot_at Data 2 0)) with_zero 5 row col
+
+zeros_of_ranks : zero_at 0 0 ∷ zero_at 0 1 ∷ zero_at 1 0 ∷ zero_at 1 1 ∷ [] ≡ 2048 ∷ 2048 ∷ 2048 ∷ 2 ∷ []
+unfolding entry
+zeros_of_ranks = refl
+
+zero_of_diagonal : info_number (least_zero (λ i. held (rows_of layout_2) (strips_in (with_zero (i % 2)) (slot_at Data 2 (i / 2))) i 0) 3) ≡ 2
+unfolding entry least_zero
+zero_of_diagonal = refl
 
 -- rows 0 and 1 of the first column, on two process rows, change places by two messages
 abbrev first_slot : Slot

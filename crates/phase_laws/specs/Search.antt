@@ -2,8 +2,11 @@
 use Rattle.std.specs.Prelude.{◌≡◌, ℕ, ◌+◌, ◌<◌, ◌≤◌, ◌==◌, if◌then◌else◌, Option, Some, None}
 use Rattle.blacs_grid.specs.Places.{rank_at}
 use Rattle.rank_machine.specs.declared.slot.SlotKind.TheVariants.{Data}
+use Rattle.rank_machine.specs.declared.slot.Slot.{Slot}
+use Rattle.rank_machine.specs.declared.slot.Piece.{Piece}
+use Rattle.rank_machine.specs.declared.kernel.Kernel.TheVariants as k
 use Rattle.rank_machine.specs.Setting.{Layout, Setting, group_count, layout}
-use Rattle.rank_machine.specs.Effect.{Memory, none_number, least_of, number_if, is_zero_here}
+use Rattle.rank_machine.specs.Effect.{Memory, none_number, number_of, slot_of, made_by}
 use Rattle.rank_machine.specs.CodeLaw.{slot_at}
 use Rattle.elimination.specs.Strips.{Hold}
 use Rattle.phase_laws.specs.Columns.{rows_of, strips_in, columns_of}
@@ -22,9 +25,9 @@ pub record IsLeastOf (n : ℕ) (f : ℕ → ℕ) (v : ℕ) : Type 0 where
 pub record HoldMatrix (d : Layout) (line : ℕ) (a : ℕ → ℕ → ℕ) (mem : ℕ → ℕ → Memory) : Type 0 where
   pub strips : (group col : ℕ) → group < group_count d → col < d.grid.q → Hold (rows_of d) d.desc.nb (λ i c. a i (columns_of d group c col)) (strips_in (mem col) (slot_at Data line group))
 
--- what the rank at a process row and column finds among the first n words of the diagonal: the number, from 1, of the first that is 0 and its own
-abbrev pub zero_found : Setting → ℕ → (ℕ → ℕ → Memory) → ℕ → ℕ → ℕ → ℕ
-zero_found s line mem n row col = least_of n (λ i. number_if (is_zero_here s (rank_at (layout s line).grid row col) (mem col row) line i) (i + 1))
+-- the number that `diag` makes in the slot `to` on the rank at a process row and column: that of the first zero, from 1, among the first n words of the diagonal that lie on it, or none. The matrix is that of the slot of `from`
+abbrev pub zero_found : Setting → Slot → Piece → (ℕ → ℕ → Memory) → ℕ → ℕ → ℕ → ℕ
+zero_found s to from mem n row col = number_of (Some (made_by s (rank_at (layout s (slot_of from).id).grid row col) (mem col row) (k.Diag to from n)))
 
 -- the number that stands for INFO: none where it is 0
 abbrev pub info_number : ℕ → ℕ

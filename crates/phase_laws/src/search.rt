@@ -58,12 +58,13 @@ pub fn push_appends_the_pivot()
         made_by s rank mem (k.Push to from j) ≡ Index (eliminate_column p inverse m j e).pivots }
 {}
 
-/// Each data rank finds its first zero among the first words of the diagonal; the least of what
-/// they find is that of the whole matrix: INFO, or no number where INFO is 0.
+/// By `diag` each data rank finds its first zero among the first `n` words of the diagonal, or among
+/// all of them where it has fewer: `count` words. The least of what the ranks find is that of the
+/// whole matrix: INFO, or no number where INFO is 0.
 pub fn least_zero_is_info()
-    ensures { (s : Setting) (line : ℕ) (a : ℕ → ℕ → ℕ) (mem : ℕ → ℕ → Memory) (n found : ℕ) →
-        let d = layout s line in
-        IsDesc d.grid.p d.grid.q d.desc → HoldMatrix d line a mem → n ≤ min d.desc.m d.desc.n →
-        IsLeastOf (d.grid.p * d.grid.q) (λ k. zero_found s line mem n (k / d.grid.q) (k % d.grid.q)) found →
-        found ≡ info_number (least_zero (diagonal a) n) }
+    ensures { (s : Setting) (to : Slot) (from : Piece) (a : ℕ → ℕ → ℕ) (mem : ℕ → ℕ → Memory) (n count found : ℕ) →
+        let d = layout s (slot_of from).id in
+        IsDesc d.grid.p d.grid.q d.desc → HoldMatrix d (slot_of from).id a mem → count ≡ min n (min d.desc.m d.desc.n) →
+        IsLeastOf (d.grid.p * d.grid.q) (λ k. zero_found s to from mem n (k / d.grid.q) (k % d.grid.q)) found →
+        found ≡ info_number (least_zero (diagonal a) count) }
 {}

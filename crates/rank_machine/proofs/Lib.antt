@@ -1,6 +1,7 @@
 pub mod Runs
 pub mod Base
 pub mod Agree
+pub mod Jobs
 mod Checks
 mod Terms
 mod Smallest

@@ -1,8 +1,9 @@
 -- The commands of a script and the lines that they stand on.
-use Rattle.std.proofs.Common.{◌≡◌, ℕ, suc, ◌-◌, ◌<◌, ◌≤◌, false, eqb, List, [], ◌∷◌, length, get_or, Option, Some, None, refl, sym, ap, ◌∙◌, arith, inl, inr}
+use Rattle.std.proofs.Common.{◌≡◌, ℕ, suc, ◌+◌, ◌-◌, ◌<◌, ◌≤◌, false, eqb, List, [], ◌∷◌, length, get_or, drop, Option, Some, None, refl, sym, ap, ◌∙◌, arith, inl, inr}
 use Rattle.std.specs.List.{slice_get}
 use Rattle.std.proofs.Common.{eq-eqb}
 use Rattle.std.proofs.lemmas.Bool.{cases_lt}
+use Rattle.std.proofs.lemmas.List.{drop_more}
 use Rattle.std.proofs.lemmas.Option.{slice_get_read, slice_get_past}
 use Rattle.std.proofs.lemmas.Bool.Decides.{nat_tests}
 use Rattle.run_data.specs.declared.command.Command.{Command}
@@ -52,3 +53,20 @@ command_at_found lines line c low lt e = command_at-commands_from 1 lines line (
 
 pub command_at_past : (lines : List (Option Command)) (line : ℕ) → 0 < line → length lines ≤ line - 1 → command_at (commands_of lines) line ≡ None
 command_at_past lines line low ge = command_at-commands_from 1 lines line (omega arith) ∙ ap said (slice_get_past lines (line - 1) ge)
+
+-- ---- the commands of the lines from the one at place i on: those of that line and of the others
+commands_left : (lines : List (Option Command)) (i : ℕ) (d : Option Command) → i < length lines → commands_from (suc i) (drop i lines) ≡ commands_from (suc i) (get_or lines i d ∷ drop (i + 1) lines)
+commands_left lines i d lt = ap (commands_from (suc i)) (drop_more lines i d lt)
+
+pub left-some : (lines : List (Option Command)) (i : ℕ) (d : Option Command) (command : Command) → i < length lines → get_or lines i d ≡ Some command
+    → commands_from (suc i) (drop i lines) ≡ record { line = i + 1; command = command } ∷ commands_from (suc (i + 1)) (drop (i + 1) lines)
+left-some lines i d command lt e =
+    let k : suc i ≡ i + 1 = omega arith in
+    commands_left lines i d lt ∙ ap (λ o. commands_from (suc i) (o ∷ drop (i + 1) lines)) e
+    ∙ ap (λ (m : ℕ). record { line = m; command = command } ∷ commands_from (suc m) (drop (i + 1) lines)) k
+
+pub left-none : (lines : List (Option Command)) (i : ℕ) (d : Option Command) → i < length lines → get_or lines i d ≡ None
+    → commands_from (suc i) (drop i lines) ≡ commands_from (suc (i + 1)) (drop (i + 1) lines)
+left-none lines i d lt e =
+    let k : suc i ≡ i + 1 = omega arith in
+    commands_left lines i d lt ∙ ap (λ o. commands_from (suc i) (o ∷ drop (i + 1) lines)) e ∙ ap (λ (m : ℕ). commands_from (suc m) (drop (i + 1) lines)) k

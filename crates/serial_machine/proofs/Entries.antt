@@ -1,6 +1,5 @@
 -- Names with their values: where a name stands, and what a change there does.
 use Rattle.std.proofs.Common.{◌≡◌, ◌+◌, ◌<◌, ◌≤◌, ℕ, zero, suc, Bool, true, false, cond, List, [], ◌∷◌, Option, None, length, drop, set, get_or, refl, sym, ap, subst, ◌∙◌, ⊎_elim, arith}
-use Rattle.std.specs.Prelude.{Result, Ok, Err, OnOk}
 use Rattle.std.specs.Str.{bytes_eq}
 use Rattle.std.proofs.lemmas.Bool.{cases_Bool, true≢false}
 use Rattle.std.proofs.lemmas.Slice.Eq.{bytes_eq-Decides}
@@ -140,11 +139,6 @@ list_meanwhile values out name other e t is = (is.0, meanwhile values out name o
 
 pub put_back : (values out back : model.Values) (name : List ℕ) (v : Option model.Value) → out ≡ with_value values name None → back ≡ with_value out name v → back ≡ with_value values name v
 put_back values out back name v taken_out put = put ∙ ap (λ (w : model.Values). with_value w name v) taken_out ∙ value_again values name None v
-
--- what follows from an answer without a fault
-pub on_ok : {T E : Type 0} (r : Result T E) (P Q : Type 0) → OnOk r P → (P → Q) → OnOk r Q
-on_ok (Ok x) P Q h f = f h
-on_ok (Err e) P Q h f = tt
 
 -- what a solve asks of a matrix and a list, said of the same ones under other names
 pub enough_again : (a b : Matrix) (v w : List ℕ) → a ≡ b → v ≡ w → b.rows ≤ length w → a.rows ≤ length v

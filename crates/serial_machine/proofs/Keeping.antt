@@ -1,5 +1,5 @@
 -- What the serial run keeps: all matrices have their shapes, and words below p.
-use Rattle.std.proofs.Common.{◌≡◌, ℕ, ◌*◌, ◌%◌, ◌<◌, ◌==◌, Bool, true, false, min, List, Option, Some, None, sym, ap, subst, arith}
+use Rattle.std.proofs.Common.{◌≡◌, ℕ, ◌*◌, ◌%◌, ◌<◌, ◌==◌, Bool, true, false, List, Option, Some, None, sym, ap, subst}
 use Rattle.std.proofs.Math.Nat.{mod-lt}
 use Rattle.std.specs.Prelude.{if◌then◌else◌}
 use Rattle.std.specs.Str.{bytes_eq}
@@ -11,15 +11,14 @@ use Rattle.run_data.specs.declared.command.Command.TheVariants as c
 use Rattle.rank_machine.specs.Scripts.{Matrices, file_of}
 use Rattle.local_blas.proofs.UpperSolutions.{upper_solution-below}
 use Rattle.local_blas.specs.Kernels.{solution}
-use Rattle.serial_model.specs.Elimination.{elimination, elimination_of, eliminated_matrix, untouched, exchanged}
+use Rattle.serial_model.specs.Elimination.{elimination_of, eliminated_matrix, exchanged}
 use Rattle.serial_model.specs.Solves.{product_of, solved_column, solved_unless, solved_with_factors, triangle_solved, factors_solved, window_copied}
 use Rattle.serial_model.specs.Serial as model
 use Rattle.serial_model.specs.Serial.{Values, with_value, matrix_in, values_under}
-use Rattle.elimination.proofs.PanelLaws.{ready-columns}
+use Rattle.elimination.proofs.Words.{ready-matrix, elimination-ready}
 use Rattle.serial_machine.specs.Values.{IsMatrix}
 use Rattle.serial_machine.specs.Ready as ready
 use Rattle.serial_machine.specs.Ready.{IsWhole, AreWhole}
-use Rattle.serial_machine.proofs.Beginning.{whole-ready}
 use Rattle.serial_machine.proofs.Whole.{column-below}
 
 -- ---- the matrices that commands make
@@ -30,10 +29,8 @@ whole-product : (p alpha : ℕ) (a b : Matrix) (beta : ℕ) (x : Matrix) → 0 <
 whole-product p alpha a b beta x pos = whole-tabulate p x.rows (cols x) _ pos (λ i j. mod-lt _ pos)
 
 whole-eliminated : (p : ℕ) (inverse : ℕ → ℕ) (a : Matrix) → 0 < p → IsWhole p a → IsWhole p (eliminated_matrix p inverse a)
-unfolding elimination
 whole-eliminated p inverse a pos w =
-    whole-tabulate p a.rows (cols a) (elimination_of p inverse a).words pos
-    (λ i j. (ready-columns p inverse a.rows 0 (min a.rows (cols a)) (untouched (entry a)) (omega arith) (whole-ready p a w.shaped w.words)).below i j)
+    whole-tabulate p a.rows (cols a) (elimination_of p inverse a).words pos (elimination-ready p inverse a.rows (cols a) (entry a) (ready-matrix p a w.shaped w.words)).below
 
 whole-either : (p : ℕ) (b : Bool) (x y : Matrix) → IsWhole p x → IsWhole p y → IsWhole p (if b then x else y)
 whole-either p true x y first second = first

@@ -1,6 +1,6 @@
 -- The serial run under way: what is left of it, and that each command leads to the rest.
-use Rattle.std.proofs.Common.{◌≡◌, ℕ, suc, ◌+◌, ◌<◌, ◌≤◌, List, [], ◌∷◌, ◌++◌, Option, Some, None, length, get_or, drop, append_assoc, sym, ap, subst, ◌∙◌, arith}
-use Rattle.std.proofs.lemmas.List.{append-nil, drop_more, drop_all}
+use Rattle.std.proofs.Common.{◌≡◌, ℕ, suc, ◌<◌, ◌≤◌, List, [], ◌∷◌, ◌++◌, Option, Some, None, length, drop, append_assoc, sym, ap, subst, ◌∙◌}
+use Rattle.std.proofs.lemmas.List.{append-nil, drop_all}
 use Rattle.run_data.specs.declared.command.Command.{Command}
 use Rattle.run_data.specs.Script.{Numbered, commands_from}
 use Rattle.rank_machine.specs.Scripts.{Matrices, file_of}
@@ -37,22 +37,6 @@ run-after p inverse files all n left values text values' text' pos way ev et = r
 pub run-over : (p : ℕ) (inverse : ℕ → ℕ) (files : Matrices) (all : List ℕ) (values : Values) (text : List ℕ) → InRun p inverse files all [] values text → text ≡ all
 run-over p inverse files all values text way = sym (append-nil text) ∙ way.said
 
--- ---- the commands of the lines that are left
-commands_left : (lines : List (Option Command)) (i : ℕ) (d : Option Command) → i < length lines → commands_from (suc i) (drop i lines) ≡ commands_from (suc i) (get_or lines i d ∷ drop (i + 1) lines)
-commands_left lines i d lt = ap (λ ls. commands_from (suc i) ls) (drop_more lines i d lt)
-
-pub left-some : (lines : List (Option Command)) (i : ℕ) (d : Option Command) (command : Command) → i < length lines → get_or lines i d ≡ Some command
-    → commands_from (suc i) (drop i lines) ≡ record { line = i + 1; command = command } ∷ commands_from (suc (i + 1)) (drop (i + 1) lines)
-left-some lines i d command lt e =
-    let k : suc i ≡ i + 1 = omega arith in
-    commands_left lines i d lt ∙ ap (λ o. commands_from (suc i) (o ∷ drop (i + 1) lines)) e
-    ∙ ap (λ (m : ℕ). record { line = m; command = command } ∷ commands_from (suc m) (drop (i + 1) lines)) k
-
-pub left-none : (lines : List (Option Command)) (i : ℕ) (d : Option Command) → i < length lines → get_or lines i d ≡ None
-    → commands_from (suc i) (drop i lines) ≡ commands_from (suc (i + 1)) (drop (i + 1) lines)
-left-none lines i d lt e =
-    let k : suc i ≡ i + 1 = omega arith in
-    commands_left lines i d lt ∙ ap (λ o. commands_from (suc i) (o ∷ drop (i + 1) lines)) e ∙ ap (λ (m : ℕ). commands_from (suc m) (drop (i + 1) lines)) k
-
+-- no line is left
 pub none-left : (lines : List (Option Command)) (i : ℕ) → length lines ≤ i → commands_from (suc i) (drop i lines) ≡ []
 none-left lines i past = ap (λ ls. commands_from (suc i) ls) (drop_all i lines past)

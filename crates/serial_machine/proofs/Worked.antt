@@ -5,15 +5,15 @@ use Rattle.std.specs.FinMap as map
 use Rattle.std.specs.Str.{IsUtf8, IsAscii}
 use Rattle.std.proofs.lemmas.Str.{IsUtf8-from_ascii}
 use Rattle.field_core.specs.Residue.{inverse}
-use Rattle.run_data.specs.Matrix.{Matrix, cols, IsShaped, AreWords, zero_matrix}
+use Rattle.run_data.specs.Matrix.{Matrix, cols, entry, IsShaped, AreWords, zero_matrix}
 use Rattle.run_data.specs.declared.command.Command.{Command}
 use Rattle.run_data.proofs.Matrices.{rows-tabulate, cols-tabulate}
 use Rattle.rank_machine.specs.Scripts.{Matrices, file_of}
 use Rattle.serial_model.specs.Elimination.{Eliminated, elimination_of, eliminated_matrix}
 use Rattle.elimination.specs.Whole.{AreRows}
+use Rattle.elimination.proofs.Numbers.{elimination-count, elimination-rows}
 use Rattle.serial_machine.specs.Ready.{IsWhole, HasMatrix, CanRun}
 use Rattle.serial_machine.specs.Worked.{solve_script}
-use Rattle.serial_machine.proofs.Pivots.{pivots-count, pivots-are_rows}
 
 one_ascii : (x : ℕ) → x < 128 → IsAscii (x ∷ [])
 one_ascii x h zero = h
@@ -32,7 +32,7 @@ can_solve n files left right square rows few =
     let height : (eliminated_matrix 65537 (inverse 65537) a).rows ≡ a.rows = rows-tabulate a.rows (cols a) e.words in
     let width : cols (eliminated_matrix 65537 (inverse 65537) a) ≡ cols a = cols-tabulate a.rows (cols a) e.words in
     let all : min a.rows (cols a) ≡ a.rows = omega (arith, square) in
-    let count : length e.pivots ≡ a.rows = pivots-count 65537 (inverse 65537) a left.matrix ∙ all in
+    let count : length e.pivots ≡ a.rows = elimination-count 65537 (inverse 65537) a.rows (cols a) (entry a) ∙ all in
     record {
       ready = (
         left,
@@ -46,7 +46,7 @@ can_solve n files left right square rows few =
                 list = (e.pivots, refl);
                 other = refl;
                 enough = omega (arith, height, count);
-                rows = subst (λ k. AreRows e.pivots 0 k k) (sym height) (pivots-are_rows 65537 (inverse 65537) a left.matrix square);
+                rows = subst (λ k. AreRows e.pivots 0 k k) (sym height) (subst (λ k. AreRows e.pivots 0 k a.rows) all (elimination-rows 65537 (inverse 65537) a.rows (cols a) (entry a)));
                 named = letter 66 (lit< tt);
               },
               (record { value = (_, refl, tt); named = letter 66 (lit< tt) }, (record { value = (_, refl, omega (arith, few, count)); named = letter 86 (lit< tt) }, tt)),

@@ -32,7 +32,7 @@ exchange_rows-requires-clause-list g c =
     let inside : c.args.first + (c.min-2.result - c.args.first) ≤ c.args.a.now.rows = omega (arith, c.rows-rows.ensures.value) in
     let narrow : (c.min-2.result - c.args.first) ≤ (c.args.first + c.min.result) - c.args.first = omega arith in
     let done = panel_done g.K.Field.MODULUS (inverse g.K.Field.MODULUS) c.args.a.now c.in_ok-panel.panel c.eliminate_strip.new.a c.args.pivots.now.items c.eliminate_strip.new.pivots.items c.args.first (c.args.first + c.min.result) (c.min-2.result - c.args.first) c.rows-rows.ensures.shaped c.requires.words c.requires.count (omega arith) narrow inside (cut_is c.args.a.now c.in_ok-panel.panel c.columns-own.result c.args.first (c.args.first + c.min.result) c.columns-own.ensures c.in_ok-panel.ensures) c.in_ok-eliminate_strip.ensures.matrix c.in_ok-eliminate_strip.ensures.list in
-    let count : length c.eliminate_strip.new.pivots.items ≡ c.args.first + (c.min-2.result - c.args.first) = panel-count g.K.Field.MODULUS (inverse g.K.Field.MODULUS) c.args.a.now c.eliminate_strip.new.a c.args.pivots.now.items c.eliminate_strip.new.pivots.items c.args.first (c.args.first + c.min.result) (c.min-2.result - c.args.first) c.rows-rows.ensures.shaped c.requires.words c.requires.count inside done in
+    let count : length c.eliminate_strip.new.pivots.items ≡ c.args.first + (c.min-2.result - c.args.first) = panel-count g.K.Field.MODULUS (inverse g.K.Field.MODULUS) c.args.a.now c.eliminate_strip.new.a c.args.pivots.now.items c.eliminate_strip.new.pivots.items c.args.first (c.args.first + c.min.result) (c.min-2.result - c.args.first) c.requires.count inside done in
     let same : length c.deref.result.now ≡ length c.eliminate_strip.new.pivots.items = ap length c.deref.ensures.value in
     omega arith
 
@@ -42,7 +42,7 @@ exchange_rows-requires-clause-rows g c =
     let narrow : (c.min-2.result - c.args.first) ≤ (c.args.first + c.min.result) - c.args.first = omega arith in
     let done = panel_done g.K.Field.MODULUS (inverse g.K.Field.MODULUS) c.args.a.now c.in_ok-panel.panel c.eliminate_strip.new.a c.args.pivots.now.items c.eliminate_strip.new.pivots.items c.args.first (c.args.first + c.min.result) (c.min-2.result - c.args.first) c.rows-rows.ensures.shaped c.requires.words c.requires.count (omega arith) narrow inside (cut_is c.args.a.now c.in_ok-panel.panel c.columns-own.result c.args.first (c.args.first + c.min.result) c.columns-own.ensures c.in_ok-panel.ensures) c.in_ok-eliminate_strip.ensures.matrix c.in_ok-eliminate_strip.ensures.list in
     let left_rows : c.in_ok-left.left.rows ≡ c.args.a.now.rows = cut-rows c.args.a.now c.in_ok-left.left 0 c.args.first (cut_is c.args.a.now c.in_ok-left.left c.columns-before.result 0 c.args.first c.columns-before.ensures c.in_ok-left.ensures) in
-    rows_same c.deref.result.now c.eliminate_strip.new.pivots.items c.args.first (c.min-2.result - c.args.first) c.args.a.now.rows c.in_ok-left.left.rows c.deref.ensures.value left_rows (panel-rows g.K.Field.MODULUS (inverse g.K.Field.MODULUS) c.args.a.now c.eliminate_strip.new.a c.args.pivots.now.items c.eliminate_strip.new.pivots.items c.args.first (c.args.first + c.min.result) (c.min-2.result - c.args.first) c.rows-rows.ensures.shaped c.requires.words c.requires.count inside done)
+    rows_same c.deref.result.now c.eliminate_strip.new.pivots.items c.args.first (c.min-2.result - c.args.first) c.args.a.now.rows c.in_ok-left.left.rows c.deref.ensures.value left_rows (panel-rows g.K.Field.MODULUS (inverse g.K.Field.MODULUS) c.args.a.now c.eliminate_strip.new.a c.args.pivots.now.items c.eliminate_strip.new.pivots.items c.args.first (c.args.first + c.min.result) (c.min-2.result - c.args.first) c.requires.count inside done)
 
 pub carry-requires-clause-inside : goal.carry-requires-clause-inside
 carry-requires-clause-inside g c =
@@ -73,7 +73,7 @@ carry-requires-clause-list g c =
     let inside : c.args.first + (c.min-2.result - c.args.first) ≤ c.args.a.now.rows = omega (arith, c.rows-rows.ensures.value) in
     let narrow : (c.min-2.result - c.args.first) ≤ (c.args.first + c.min.result) - c.args.first = omega arith in
     let done = panel_done g.K.Field.MODULUS (inverse g.K.Field.MODULUS) c.args.a.now c.in_ok-panel.panel c.eliminate_strip.new.a c.args.pivots.now.items c.eliminate_strip.new.pivots.items c.args.first (c.args.first + c.min.result) (c.min-2.result - c.args.first) c.rows-rows.ensures.shaped c.requires.words c.requires.count (omega arith) narrow inside (cut_is c.args.a.now c.in_ok-panel.panel c.columns-own.result c.args.first (c.args.first + c.min.result) c.columns-own.ensures c.in_ok-panel.ensures) c.in_ok-eliminate_strip.ensures.matrix c.in_ok-eliminate_strip.ensures.list in
-    let count : length c.eliminate_strip.new.pivots.items ≡ c.args.first + (c.min-2.result - c.args.first) = panel-count g.K.Field.MODULUS (inverse g.K.Field.MODULUS) c.args.a.now c.eliminate_strip.new.a c.args.pivots.now.items c.eliminate_strip.new.pivots.items c.args.first (c.args.first + c.min.result) (c.min-2.result - c.args.first) c.rows-rows.ensures.shaped c.requires.words c.requires.count inside done in
+    let count : length c.eliminate_strip.new.pivots.items ≡ c.args.first + (c.min-2.result - c.args.first) = panel-count g.K.Field.MODULUS (inverse g.K.Field.MODULUS) c.args.a.now c.eliminate_strip.new.a c.args.pivots.now.items c.eliminate_strip.new.pivots.items c.args.first (c.args.first + c.min.result) (c.min-2.result - c.args.first) c.requires.count inside done in
     let same : length c.deref-2.result.now ≡ length c.eliminate_strip.new.pivots.items = ap length c.deref-2.ensures.value in
     omega arith
 
@@ -84,7 +84,7 @@ carry-requires-clause-rows g c =
     let done = panel_done g.K.Field.MODULUS (inverse g.K.Field.MODULUS) c.args.a.now c.in_ok-panel.panel c.eliminate_strip.new.a c.args.pivots.now.items c.eliminate_strip.new.pivots.items c.args.first (c.args.first + c.min.result) (c.min-2.result - c.args.first) c.rows-rows.ensures.shaped c.requires.words c.requires.count (omega arith) narrow inside (cut_is c.args.a.now c.in_ok-panel.panel c.columns-own.result c.args.first (c.args.first + c.min.result) c.columns-own.ensures c.in_ok-panel.ensures) c.in_ok-eliminate_strip.ensures.matrix c.in_ok-eliminate_strip.ensures.list in
     let right_part : c.columns-after.result ≡ columns_part c.args.a.now.rows (c.args.first + c.min.result) (cols c.args.a.now) = c.columns-after.ensures ∙ ap (columns_part c.args.a.now.rows (c.args.first + c.min.result)) c.cols-cols.ensures in
     let right_rows : c.in_ok-right.right.rows ≡ c.args.a.now.rows = cut-rows c.args.a.now c.in_ok-right.right (c.args.first + c.min.result) (cols c.args.a.now) (cut_is c.args.a.now c.in_ok-right.right c.columns-after.result (c.args.first + c.min.result) (cols c.args.a.now) right_part c.in_ok-right.ensures) in
-    rows_same c.deref-2.result.now c.eliminate_strip.new.pivots.items c.args.first (c.min-2.result - c.args.first) c.args.a.now.rows c.in_ok-right.right.rows c.deref-2.ensures.value right_rows (panel-rows g.K.Field.MODULUS (inverse g.K.Field.MODULUS) c.args.a.now c.eliminate_strip.new.a c.args.pivots.now.items c.eliminate_strip.new.pivots.items c.args.first (c.args.first + c.min.result) (c.min-2.result - c.args.first) c.rows-rows.ensures.shaped c.requires.words c.requires.count inside done)
+    rows_same c.deref-2.result.now c.eliminate_strip.new.pivots.items c.args.first (c.min-2.result - c.args.first) c.args.a.now.rows c.in_ok-right.right.rows c.deref-2.ensures.value right_rows (panel-rows g.K.Field.MODULUS (inverse g.K.Field.MODULUS) c.args.a.now c.eliminate_strip.new.a c.args.pivots.now.items c.eliminate_strip.new.pivots.items c.args.first (c.args.first + c.min.result) (c.min-2.result - c.args.first) c.requires.count inside done)
 
 pub carry-requires-clause-words : goal.carry-requires-clause-words
 carry-requires-clause-words g c =

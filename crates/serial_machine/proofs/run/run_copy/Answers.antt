@@ -1,9 +1,10 @@
 use Rattle.std.proofs.Common.{subst, sym, ap, ◌∙◌}
+use Rattle.std.proofs.lemmas.Result.{on_ok_weaker}
 use Rattle.run_data.specs.Parts.{IsWithin}
 use Rattle.serial_model.specs.Serial.{matrix_in, with_matrix}
 use Rattle.serial_model.specs.Solves.{window, window_copied}
 use Rattle.serial_machine.specs.Values.{values_of}
-use Rattle.serial_machine.proofs.Entries.{meanwhile, matrix_meanwhile, put_back, on_ok}
+use Rattle.serial_machine.proofs.Entries.{meanwhile, matrix_meanwhile, put_back}
 use Rattle.serial_machine.proofs.run.run_copy.Goals as goal
 
 pub matrix-source-requires : goal.matrix-source-requires
@@ -20,7 +21,8 @@ copy_window-requires-clause-in_b c = subst (IsWithin (window c.args.m c.args.n c
 pub returns : goal.returns
 returns c =
     let source_is = c.matrix-source.ensures ∙ ap matrix_in (meanwhile _ _ _ _ c.take_matrix-copied.ensures.after c.requires.other) in
-    on_ok c.put_matrix.result _ _ c.put_matrix.ensures
+    on_ok_weaker c.put_matrix.result
     (λ e. put_back _ _ _ _ _ c.take_matrix-copied.ensures.after e
     ∙ ap (with_matrix (values_of c.args.values.now.entries.items) c.args.b.now)
     (c.copy_window.ensures ∙ (λ t. window_copied c.args.m c.args.n (source_is t) c.args.from.row c.args.from.column (c.take_matrix-copied.ensures.value t) c.args.to.row c.args.to.column)))
+    c.put_matrix.ensures

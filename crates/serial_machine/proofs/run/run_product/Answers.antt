@@ -1,9 +1,10 @@
 use Rattle.std.proofs.Common.{subst, sym, ap, ◌∙◌}
+use Rattle.std.proofs.lemmas.Result.{on_ok_weaker}
 use Rattle.run_data.specs.Matrix.{Matrix, cols, AreWords}
 use Rattle.serial_model.specs.Serial.{matrix_in, with_matrix}
 use Rattle.serial_model.specs.Solves.{product_of}
 use Rattle.serial_machine.specs.Values.{values_of}
-use Rattle.serial_machine.proofs.Entries.{meanwhile, matrix_meanwhile, put_back, on_ok}
+use Rattle.serial_machine.proofs.Entries.{meanwhile, matrix_meanwhile, put_back}
 use Rattle.serial_machine.proofs.Keeping.{whole-in}
 use Rattle.serial_machine.proofs.run.run_product.Goals as goal
 
@@ -47,7 +48,8 @@ pub returns : goal.returns
 returns g c =
     let left_is = c.matrix-left.ensures ∙ ap matrix_in (meanwhile _ _ _ _ c.take_matrix-product.ensures.after c.requires.can.not_left) in
     let right_is = c.matrix-right.ensures ∙ ap matrix_in (meanwhile _ _ _ _ c.take_matrix-product.ensures.after c.requires.can.not_right) in
-    on_ok c.put_matrix.result _ _ c.put_matrix.ensures
+    on_ok_weaker c.put_matrix.result
     (λ e. put_back _ _ _ _ _ c.take_matrix-product.ensures.after e
     ∙ ap (with_matrix (values_of c.args.values.now.entries.items) c.args.c.now)
     (c.multiply.ensures ∙ (λ t. product_of g.K.Field.MODULUS c.args.alpha (left_is t) (right_is t) c.args.beta (c.take_matrix-product.ensures.value t))))
+    c.put_matrix.ensures

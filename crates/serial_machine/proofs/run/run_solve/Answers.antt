@@ -5,8 +5,9 @@ use Rattle.serial_model.specs.Serial.{matrix_in, with_matrix, list_in}
 use Rattle.serial_model.specs.Solves.{factors_solved}
 use Rattle.serial_model.specs.Text.{info_text}
 use Rattle.std.specs.Prelude.{codes, ◌++◌}
+use Rattle.std.proofs.lemmas.Result.{on_ok_weaker}
 use Rattle.serial_machine.specs.Values.{values_of}
-use Rattle.serial_machine.proofs.Entries.{meanwhile, matrix_meanwhile, list_meanwhile, put_back, on_ok, enough_again, rows_again}
+use Rattle.serial_machine.proofs.Entries.{meanwhile, matrix_meanwhile, list_meanwhile, put_back, enough_again, rows_again}
 use Rattle.serial_machine.proofs.Keeping.{whole-in}
 use Rattle.serial_machine.proofs.run.run_solve.Goals as goal
 
@@ -51,17 +52,19 @@ pub returns-clause-changed : goal.returns-clause-changed
 returns-clause-changed g c =
     let matrix_is = c.matrix-matrix.ensures ∙ ap matrix_in (meanwhile _ _ _ _ c.take_matrix-solved.ensures.after c.requires.can.system.other) in
     let rows_are = c.rows-rows.ensures ∙ ap list_in (meanwhile _ _ _ _ c.take_matrix-solved.ensures.after c.requires.can.other) in
-    on_ok c.print_info.result _ _ c.print_info.ensures
+    on_ok_weaker c.print_info.result
     (λ e. put_back _ _ _ _ _ c.take_matrix-solved.ensures.after c.in_ok-put_matrix.ensures
     ∙ ap (with_matrix (values_of c.args.values.now.entries.items) c.args.b.now)
     (c.solve_with_factors-info.ensures.matrix
     ∙ (λ t. (factors_solved g.K.Field.MODULUS (inverse g.K.Field.MODULUS) (matrix_is t) (rows_are t) (c.take_matrix-solved.ensures.value t)).matrix)))
+    c.print_info.ensures
 
 pub returns-clause-text : goal.returns-clause-text
 returns-clause-text g c =
     let matrix_is = c.matrix-matrix.ensures ∙ ap matrix_in (meanwhile _ _ _ _ c.take_matrix-solved.ensures.after c.requires.can.system.other) in
     let rows_are = c.rows-rows.ensures ∙ ap list_in (meanwhile _ _ _ _ c.take_matrix-solved.ensures.after c.requires.can.other) in
-    on_ok c.print_info.result _ _ c.print_info.ensures
+    on_ok_weaker c.print_info.result
     (λ e. e ∙ ap (λ info. c.args.out.now.items ++ info_text (codes "pgetrs") c.args.b.now info)
     (c.solve_with_factors-info.ensures.info
     ∙ (λ t. (factors_solved g.K.Field.MODULUS (inverse g.K.Field.MODULUS) (matrix_is t) (rows_are t) (c.take_matrix-solved.ensures.value t)).info)))
+    c.print_info.ensures

@@ -5,8 +5,9 @@ use Rattle.serial_model.specs.Serial.{matrix_in, with_matrix}
 use Rattle.serial_model.specs.Solves.{triangle_solved}
 use Rattle.serial_model.specs.Text.{info_text}
 use Rattle.std.specs.Prelude.{codes, ◌++◌}
+use Rattle.std.proofs.lemmas.Result.{on_ok_weaker}
 use Rattle.serial_machine.specs.Values.{values_of}
-use Rattle.serial_machine.proofs.Entries.{meanwhile, matrix_meanwhile, put_back, on_ok}
+use Rattle.serial_machine.proofs.Entries.{meanwhile, matrix_meanwhile, put_back}
 use Rattle.serial_machine.proofs.Keeping.{whole-in}
 use Rattle.serial_machine.proofs.run.run_triangle.Goals as goal
 
@@ -35,16 +36,18 @@ solve_triangle-info-requires-clause-b_words g c =
 pub returns-clause-changed : goal.returns-clause-changed
 returns-clause-changed g c =
     let matrix_is = c.matrix-matrix.ensures ∙ ap matrix_in (meanwhile _ _ _ _ c.take_matrix-solved.ensures.after c.requires.can.system.other) in
-    on_ok c.print_info.result _ _ c.print_info.ensures
+    on_ok_weaker c.print_info.result
     (λ e. put_back _ _ _ _ _ c.take_matrix-solved.ensures.after c.in_ok-put_matrix.ensures
     ∙ ap (with_matrix (values_of c.args.values.now.entries.items) c.args.b.now)
     (c.solve_triangle-info.ensures.matrix
     ∙ (λ t. (triangle_solved g.K.Field.MODULUS (inverse g.K.Field.MODULUS) (c.is_lower.ensures t) (c.is_unit.ensures t) c.args.alpha (matrix_is t) (c.take_matrix-solved.ensures.value t)).matrix)))
+    c.print_info.ensures
 
 pub returns-clause-text : goal.returns-clause-text
 returns-clause-text g c =
     let matrix_is = c.matrix-matrix.ensures ∙ ap matrix_in (meanwhile _ _ _ _ c.take_matrix-solved.ensures.after c.requires.can.system.other) in
-    on_ok c.print_info.result _ _ c.print_info.ensures
+    on_ok_weaker c.print_info.result
     (λ e. e ∙ ap (λ info. c.args.out.now.items ++ info_text (codes "ptrsm") c.args.b.now info)
     (c.solve_triangle-info.ensures.info
     ∙ (λ t. (triangle_solved g.K.Field.MODULUS (inverse g.K.Field.MODULUS) (c.is_lower.ensures t) (c.is_unit.ensures t) c.args.alpha (matrix_is t) (c.take_matrix-solved.ensures.value t)).info)))
+    c.print_info.ensures

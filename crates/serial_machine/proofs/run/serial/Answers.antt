@@ -5,7 +5,8 @@ use Rattle.rank_machine.specs.Scripts.{file_of}
 use Rattle.serial_model.specs.Serial.{Values, run_under}
 use Rattle.serial_machine.specs.Values.{values_of}
 use Rattle.serial_machine.specs.Ready.{AreReady}
-use Rattle.serial_machine.proofs.Running.{InRun, run-first, run-after, run-over, left-some, left-none, none-left}
+use Rattle.run_data.proofs.Lines.{left-some, left-none}
+use Rattle.serial_machine.proofs.Running.{InRun, run-first, run-after, run-over, none-left}
 use Rattle.serial_machine.proofs.Whole.{some_modulus}
 use Rattle.serial_machine.proofs.run.serial.Goals as goal
 use Rattle.serial_machine.proofs.run.serial.Goals.{in-Some+in_ok-run_line, in_default}
