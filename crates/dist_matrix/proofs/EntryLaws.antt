@@ -11,7 +11,8 @@ use Rattle.array_desc.proofs.GroupLaws.{owner-in_group, group_of-block_in, only-
 use Rattle.blacs_grid.specs.Places.{row_of, col_of, rank_at, width}
 use Rattle.blacs_grid.proofs.PlaceLaws.{width-pos, row_of-lt, row_of-rank_at, col_of-rank_at, rank_at-coords, is_data_rank-member, is_data_rank-col, is_data_rank-rank_at}
 use Rattle.rank_machine.specs.Setting.{Layout, strip_rows, block_at, global_row, global_col}
-use Rattle.dist_matrix.specs.Strips.{IsLayout, NamesStrip, LiesInOneStrip, holds_entry, word_in_strip, rank_of_entry, group_of_entry}
+use Rattle.dist_matrix.specs.Strips.{NamesStrip, LiesInOneStrip, holds_entry, word_in_strip, rank_of_entry, group_of_entry}
+use Rattle.script_lines.specs.Layouts.{IsLayout}
 
 -- ---- sizes
 pub some_block_row : (d : Layout) → IsLayout d → 0 < d.desc.mb

@@ -2,3 +2,6 @@ pub mod EntryLaws
 pub mod StripLaws
 pub mod Cutting
 pub mod Placing
+pub mod SiteGrids
+pub mod SiteLaws
+mod FactoredScript

@@ -9,7 +9,8 @@ use Rattle.run_data.proofs.Fills.{is_passed_down}
 use Rattle.array_desc.specs.Maps.{local}
 use Rattle.blacs_grid.specs.Places.{row_of, col_of}
 use Rattle.rank_machine.specs.Setting.{Layout, strip_rows, block_at, global_row, global_col}
-use Rattle.dist_matrix.specs.Strips.{IsLayout, HasShape, NamesStrip, holds_entry, word_in_strip, with_strip}
+use Rattle.dist_matrix.specs.Strips.{HasShape, NamesStrip, holds_entry, word_in_strip, with_strip}
+use Rattle.script_lines.specs.Layouts.{IsLayout}
 use Rattle.dist_matrix.proofs.EntryLaws.{some_block_column, row-from_local, local-below, column-from_local, holds_entry-at, local-global_row, word_in_strip-at}
 
 -- whether an entry lies in the strip and was passed by a loop that stands at local row i of column j

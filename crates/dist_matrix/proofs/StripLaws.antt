@@ -18,7 +18,8 @@ use Rattle.rank_machine.specs.declared.slot.Tile.TheVariants.{Words}
 use Rattle.rank_machine.specs.Setting.{Layout, Setting, layout, group_count, strip_rows, strip_of, block_at, global_row, global_col}
 use Rattle.rank_machine.specs.State.{Took}
 use Rattle.rank_machine.specs.Printed.{taken_from, IsPrinted}
-use Rattle.dist_matrix.specs.Strips.{IsLayout, HasShape, NamesStrip, rank_of_entry, group_of_entry, holds_entry, word_in_strip, with_strip, HasStripShape, HoldsEntries, IsPadded, with_strips, HasEveryStrip, strips_of_group, all_strips}
+use Rattle.dist_matrix.specs.Strips.{HasShape, NamesStrip, rank_of_entry, group_of_entry, holds_entry, word_in_strip, with_strip, HasStripShape, HoldsEntries, IsPadded, with_strips, HasEveryStrip, strips_of_group, all_strips}
+use Rattle.script_lines.specs.Layouts.{IsLayout}
 use Rattle.dist_matrix.proofs.EntryLaws.{some_block_column, row-from_local, local-below, column-from_local, holds_entry-at, word_in_strip-at, global_row-lt, only_strip, NamesStrip-of_entry, holds_entry-of_entry}
 
 -- ---- the words of a strip

@@ -1,1 +1,3 @@
 pub mod Strips
+pub mod Site
+pub mod SiteFields

@@ -3,22 +3,15 @@ use Rattle.std.specs.Prelude.{◌≡◌, ℕ, ◌/◌, ◌%◌, ◌<◌, ◌≤�
 use Rattle.std.specs.List.{flat_map, range_with_len}
 use Rattle.run_data.specs.Matrix.{Matrix, cols, entry, tabulate}
 use Rattle.array_desc.specs.declared.Desc.{Desc}
-use Rattle.array_desc.specs.Descriptors.{IsDesc}
 use Rattle.array_desc.specs.Maps.{owner, local, group_of}
 use Rattle.blacs_grid.specs.declared.Grid.{Grid}
 use Rattle.blacs_grid.specs.declared.Scope.TheVariants.{All}
-use Rattle.blacs_grid.specs.Limits.{IsGrid}
 use Rattle.blacs_grid.specs.Places.{row_of, col_of, rank_at, is_data_rank, member, members}
 use Rattle.rank_machine.specs.Setting.{Layout, group_count, strip_rows, strip_of, block_at, global_col}
 
 -- how a matrix of this descriptor lies on this grid
 abbrev pub layout_of : Grid → Desc → Layout
 layout_of grid desc = record { grid = grid; desc = desc }
-
--- a grid within the limits and a descriptor on it
-pub record IsLayout (d : Layout) : Type 0 where
-  pub grid : IsGrid d.grid
-  pub desc : IsDesc d.grid.p d.grid.q d.desc
 
 -- the matrix has the rows and columns of the descriptor
 pub record HasShape (d : Layout) (m : Matrix) : Type 0 where

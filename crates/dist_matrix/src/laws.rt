@@ -3,7 +3,8 @@
 ghost use Rattle.std.specs.Prelude.{◌≡◌, ℕ, ◌<◌, List};
 ghost use Rattle.run_data.specs.Matrix.{Matrix, IsShaped};
 ghost use Rattle.rank_machine.specs.Setting.{Layout};
-ghost use Rattle.dist_matrix.specs.Strips.{IsLayout, HasShape, LiesInOneStrip, HasEveryStrip, with_strips, all_strips};
+ghost use Rattle.dist_matrix.specs.Strips.{HasShape, LiesInOneStrip, HasEveryStrip, with_strips, all_strips};
+ghost use Rattle.script_lines.specs.Layouts.{IsLayout};
 
 /// The strips of a matrix make up the matrix.
 ///

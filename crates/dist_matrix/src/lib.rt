@@ -7,9 +7,11 @@
 #![tactic(auto)]
 
 mod laws;
+mod site;
 mod strips;
 #[cfg(test)]
 mod tests;
 
 pub use laws::strips_make_matrix;
+pub use site::{ListShape, Site};
 pub use strips::{place, strip};

@@ -1,6 +1,8 @@
 ghost use Rattle.array_desc.specs.Descriptors.{IsDesc};
 ghost use Rattle.blacs_grid.specs.Limits.{IsGrid};
 
+mod site;
+
 use super::*;
 use array_desc::{Desc, groups, numroc};
 use blacs_grid::{Grid, Scope};
