@@ -1,8 +1,7 @@
-pub mod Sound
-pub mod Drops
-pub mod Memory
-pub mod Log
 pub mod Kept
-pub mod World
+pub mod Log
+pub mod Ranks
 pub mod Replay
+pub mod Rounds
 pub mod Taken
+pub mod World

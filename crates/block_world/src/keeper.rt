@@ -1,8 +1,13 @@
 //! The journal and the room that is left in it.
 ghost use Rattle.std.specs.Prelude.{◌≡◌, ◌<◌, ◌≤◌, ◌+◌, ◌^◌, ◌++◌, ◌∷◌, [], length, OnOk, OnErr, IfOk, IsOk, vec_len, vec_capacity};
-ghost use Rattle.block_world.specs.Log.{recorded};
+ghost use Rattle.rank_machine.specs.declared.record.Rec.{Rec};
+ghost use Rattle.block_world.specs.Log.{Log, recorded};
 
+use field_core::Field;
+use rank_link::NoMemory;
 use rank_machine::Rec;
+use rank_memory::RankMem;
+use rank_run::{Notary, Step};
 use std::alloc::{AllocError, Global};
 use std::marker::Model;
 
@@ -76,6 +81,24 @@ impl Keeper {
         Ok(())
     }
 
+    /// Takes the last record back, where the room was that before it was put.
+    pub fn take_back(&mut self, room: u32)
+        requires some { 0 < length self.old.journal }
+        requires room { room ≤ self.old.room + 1 }
+        ensures { (log : Log) (last : Rec) → self.old ≡ recorded log last → room ≡ log.room → self.new ≡ log }
+    {
+        let _ = self.journal.pop();
+        self.room = room;
+    }
+
+    /// Forgets all records, and has no room.
+    pub fn restart(&mut self)
+        ensures { self.new ≡ record { journal = []; room = 0 } }
+    {
+        self.journal.clear();
+        self.room = 0;
+    }
+
     /// The records.
     pub fn journal(&self) -> &[Rec]
         ensures { result.now ≡ self.now.journal }
@@ -95,5 +118,26 @@ impl Keeper {
         ensures { result ≡ self.now.room }
     {
         self.room
+    }
+}
+
+impl<K: Field> Notary<RankMem<K>> for Keeper {
+    ghost use Rattle.std.specs.Prelude.{false};
+    ghost use Rattle.rank_slots.specs.Stands.{rec_of};
+
+    ghost noting = { λ log step. recorded log (rec_of step) };
+
+    ghost is_due = { λ log. false };
+
+    fn due(&self) -> bool {
+        false
+    }
+
+    fn note(&mut self, step: &Step<'_, RankMem<K>>) -> Result<(), NoMemory> {
+        self.note(match *step {
+            Step::Local(rank, kernel) => Rec::Kernel(rank, *kernel),
+            Step::Send(from, to, piece) => Rec::Send(from, to, *piece),
+            Step::Recv(to, from, piece) => Rec::Recv(to, from, *piece),
+        })
     }
 }

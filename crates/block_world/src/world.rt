@@ -1,19 +1,30 @@
 //! The world of ranks.
-ghost use Rattle.std.specs.Prelude.{◌≡◌, ◌≢◌, ◌<◌, [], false, filter, length, IfOk, OnOk, OnErr, IsOk};
-ghost use Rattle.rank_machine.specs.Scripts.{setting_of};
+ghost use Rattle.std.specs.Prelude.{◌≡◌, ◌≢◌, ◌<◌, ◌-◌, ◌^◌, ℕ, [], true, false, All, filter, is_some, length, min, IfOk, OnOk, OnErr, IsOk, List};
+ghost use Rattle.rank_run.specs.Action.{Action};
+ghost use Rattle.rank_run.specs.Parts.{IsWithin};
+ghost use Rattle.rank_machine.specs.declared.kernel.Kernel.{Kernel};
+ghost use Rattle.rank_machine.specs.declared.slot.Piece.{Piece};
+ghost use Rattle.run_data.specs.Script.{commands_of};
+ghost use Rattle.rank_machine.specs.Scripts.{capacity_from, setting_of};
 ghost use Rattle.rank_machine.specs.Setting.{ranks};
 ghost use Rattle.rank_machine.specs.Effect.{strip};
-ghost use Rattle.rank_machine.specs.Legal.{IsLegal, IsLegalRec};
+ghost use Rattle.rank_machine.specs.Legal.{IsLegal, IsLegalRec, IsLegalFrom};
 ghost use Rattle.rank_machine.specs.Losses.{is_numbered};
-ghost use Rattle.rank_machine.specs.declared.record.Rec.TheVariants.{Feed, Take, Commit};
-ghost use Rattle.block_world.specs.Sound.{IsSound};
+ghost use Rattle.rank_machine.specs.declared.record.Rec.TheVariants.{Feed, Save, Take, Commit};
+ghost use Rattle.rank_slots.specs.Stands.{records_of};
+ghost use Rattle.script_lines.specs.Sound.{IsSound};
+ghost use Rattle.block_world.specs.Rounds.{IsRoundOf, AreWordsHeld};
 
-use crate::drops::{Dropping, drops_of};
 use crate::keeper::Keeper;
-use crate::memory::{Memory, find, keep_live, make_room, put};
-use crate::ranks::memories_of;
+use crate::ranks::{
+    commit_all, is_live_on, opened_ranks, put_on, ranks_of, restart_all, save_on, tile_on, words_on,
+};
+use field_core::Field;
+use rank_link::Links;
 use rank_machine::{Mark, Rec, Slot, Tile};
-use run_data::{Files, Mat, Script};
+use rank_memory::RankMem;
+use rank_run::{Order, Ran, Round, run_round};
+use run_data::{Command, Files, Mat, Script};
 use std::alloc::{AllocError, Global};
 use std::marker::Model;
 
@@ -31,21 +42,22 @@ pub enum Taken {
     Hit,
 }
 
-/// What the ranks hold, and the journal of the records that made it so. Clauses see a world as its script, its files, its
-/// journal and the room that is left; what the ranks hold is the replay of the journal, which is legal.
+/// What the ranks hold and what is on its way, and the journal of the records that made it so. Clauses see a world as its
+/// script, its files, its journal and the room that is left; what the ranks hold is the replay of the journal, which is legal.
 #[derive(Drop)]
-pub struct World<'a> {
+pub struct World<'a, K: Field> {
     alloc: Global,
     script: &'a Script,
     files: &'a Files,
-    drops: Vec<Dropping>,
-    memories: Vec<Memory>,
+    mems: Vec<RankMem<K>>,
+    links: Links<Tile>,
     mark: Mark,
     keeper: Keeper,
 }
 
-impl<'a> Model for World<'a> {
+impl<'a, K: Field> Model for World<'a, K> {
     ghost use Rattle.std.specs.Coded.{codes};
+    ghost use Rattle.rank_run.specs.Machine.{machine};
     ghost use Rattle.block_world.specs.World.{WorldView, files_code};
 
     ghost Value = { WorldView };
@@ -54,12 +66,26 @@ impl<'a> Model for World<'a> {
 
     ghost use Rattle.block_world.specs.Replay.{view_of, IsReplay};
 
-    ghost view = { view_of };
+    ghost view = { λ w. view_of w.script.now w.files.now w.keeper };
 
-    ghost invariant = { IsReplay };
+    ghost invariant = { λ w. IsReplay K.MODULUS (view_of w.script.now w.files.now w.keeper) (machine w.mems.items w.links) w.mark };
 }
 
-impl<'a> World<'a> {
+// How many messages a link holds: what the `links` line says, and 1 where there is none.
+fn capacity_of(script: &Script) -> u32
+    ensures { result ≡ capacity_from 1 (commands_of script.now) }
+{
+    let lines = script.as_slice();
+    let mut capacity = 1;
+    for i in 0..lines.len() {
+        if let Some(Command::Links { n }) = &lines[i] {
+            capacity = *n;
+        }
+    }
+    capacity
+}
+
+impl<'a, K: Field> World<'a, K> {
     ghost use Rattle.block_world.specs.World.{setting_in, state_of, noted};
     ghost use Rattle.block_world.specs.Taken.{tile_taken};
 
@@ -69,19 +95,19 @@ impl<'a> World<'a> {
         script: &'a Script,
         files: &'a Files,
         room: u32,
-    ) -> Result<World<'a>, AllocError>
-        requires { IsSound (setting_of script.now files.now) }
+    ) -> Result<World<'a, K>, AllocError>
+        requires { IsSound K.MODULUS (setting_of script.now files.now) }
         ensures { IfOk result (λ w. w ≡ record { script = script.now; files = files.now; journal = []; room = room }) }
     {
-        let drops = drops_of(alloc, script)?;
-        let memories = memories_of(alloc, script)?;
+        let mems = opened_ranks(alloc, script)?;
+        let links = Links::new(alloc, ranks_of(script), capacity_of(script))?;
         let keeper = Keeper::new(alloc, room)?;
         Ok(World {
             alloc,
             script,
             files,
-            drops,
-            memories,
+            mems,
+            links,
             mark: Mark::first(),
             keeper,
         })
@@ -95,10 +121,33 @@ impl<'a> World<'a> {
         ensures noted { OnOk result (self.new ≡ noted self.old (Feed rank slot)) }
         ensures kept { OnErr result (self.new ≡ self.old) }
     {
-        make_room(&mut self.memories, rank)?;
+        let room = self.keeper.room();
         self.keeper.note(Rec::Feed(rank, slot))?;
-        put(&mut self.memories, rank, slot, Tile::Words(m));
-        Ok(Did::Done)
+        match put_on(&mut self.mems, rank, slot, Tile::Words(m)) {
+            Ok(()) => Ok(Did::Done),
+            Err(error) => {
+                self.keeper.take_back(room);
+                Err(error)
+            }
+        }
+    }
+
+    /// Saves a copy of a slot that is not fresh. After an error nothing has changed.
+    pub fn save(&mut self, rank: u32, slot: Slot) -> Result<Did, AllocError>
+        requires legal { IsLegalRec (setting_in self.old) (state_of self.old) (Save rank slot) }
+        ensures done { IfOk result (λ d. d ≡ Did.Done) }
+        ensures noted { OnOk result (self.new ≡ noted self.old (Save rank slot)) }
+        ensures kept { OnErr result (self.new ≡ self.old) }
+    {
+        let room = self.keeper.room();
+        self.keeper.note(Rec::Save(rank, slot))?;
+        match save_on(&mut self.mems, rank, slot) {
+            Ok(()) => Ok(Did::Done),
+            Err(error) => {
+                self.keeper.take_back(room);
+                Err(error)
+            }
+        }
     }
 
     /// Takes a copy of the tile that a slot holds. After an error nothing has changed.
@@ -109,7 +158,7 @@ impl<'a> World<'a> {
         ensures noted { OnOk result (self.new ≡ noted self.old (Take rank slot)) }
         ensures kept { OnErr result (self.new ≡ self.old) }
     {
-        let tile = match find(&self.memories, rank, slot) {
+        let tile = match tile_on(&self.mems, rank, slot) {
             Some(tile) => tile.copy(self.alloc)?,
             None => unreachable!(),
         };
@@ -127,9 +176,37 @@ impl<'a> World<'a> {
         ensures memory { 0 < self.old.room → IsOk result }
     {
         self.keeper.note(Rec::Commit(mark, false))?;
-        keep_live(&mut self.memories, &self.drops, mark);
+        commit_all(&mut self.mems, mark);
         self.mark = mark;
         Ok(Did::Done)
+    }
+
+    /// Runs a round on empty links, under an order: each step adds its record. Taken in the order of the list the records of the round's
+    /// events are legal here, and what they lead to is the state after the round. After an error the world is one that has just
+    /// been opened.
+    pub fn run(&mut self, round: &Round<RankMem<K>>, order: &mut Order) -> Result<Ran, AllocError>
+        requires links { (from to : ℕ) → (state_of self.old).links from to ≡ [] }
+        requires ranks { All (IsWithin (ranks (setting_in self.old))) round.now }
+        requires legal { IsLegalFrom (setting_in self.old) (state_of self.old) (records_of round.now) }
+        ensures { IfOk result (λ ended. (noted : List (Action Kernel Piece)) × IsRoundOf self.old self.new round.now order.old order.new ended noted) }
+    {
+        match run_round(
+            self.alloc,
+            &mut self.mems,
+            &mut self.links,
+            round,
+            order,
+            &mut self.keeper,
+        ) {
+            Ok(ended) => Ok(ended),
+            Err(error) => {
+                restart_all(&mut self.mems);
+                self.links.clear();
+                self.keeper.restart();
+                self.mark = Mark::first();
+                Err(error)
+            }
+        }
     }
 
     /// How many numbered records the journal has.
@@ -144,6 +221,28 @@ impl<'a> World<'a> {
         ensures { result ≡ self.now.room }
     {
         self.keeper.room()
+    }
+
+    /// Whether a rank is live.
+    pub fn is_live(&self, rank: u32) -> bool
+        ensures { result ≡ (state_of self.now).live rank }
+    {
+        is_live_on(&self.mems, rank)
+    }
+
+    /// Whether a rank holds a slot.
+    pub fn holds(&self, rank: u32, slot: Slot) -> bool
+        ensures { result ≡ is_some ((state_of self.now).tiles rank slot) }
+    {
+        tile_on(&self.mems, rank, slot).is_some()
+    }
+
+    /// How many words a rank holds, and was saved of them: those of its tiles, and one for each number of a list. A number that
+    /// does not fit counts as the greatest that does.
+    pub fn words_held(&self, rank: u32) -> u64
+        ensures { (n : ℕ) × AreWordsHeld (state_of self.now) rank n × (result ≡ min n (2 ^ 64 - 1)) }
+    {
+        words_on(&self.mems, rank)
     }
 
     /// The journal. It is legal for the world's script and files, and each of its records is numbered, since no rank is lost yet.

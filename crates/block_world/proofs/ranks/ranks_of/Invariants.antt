@@ -2,7 +2,7 @@ use Rattle.std.proofs.Common.{◌≡◌, suc, ◌+◌, ◌≤◌, drop}
 use Rattle.run_data.specs.Script.{commands_from, commands_of}
 use Rattle.rank_machine.specs.Setting.{sizes}
 use Rattle.rank_machine.specs.Scripts.{grids_from}
-use Rattle.block_world.specs.Sound.{AreGrids}
+use Rattle.script_lines.specs.Layouts.{AreGrids}
 use Rattle.block_world.proofs.ranks.ranks_of.Given as goal
 
 abbrev pub invariant-loop-i : goal.invariant-loop-i

@@ -1,49 +1,72 @@
-use Rattle.std.proofs.Common.{◌<◌, List, length, refl, sym, ap, subst, ◌∙◌}
+use Rattle.std.proofs.Common.{◌<◌, ◌∙◌, length, refl, ap, sym, subst}
+use Rattle.std.proofs.lemmas.Option.{slice_get_within}
+use Rattle.rank_run.specs.Machine.{machine}
+use Rattle.rank_run.specs.Rounds.{on_rank}
 use Rattle.rank_machine.specs.Effect.{strip}
-use Rattle.rank_machine.specs.Legal.{IsLegalRec}
 use Rattle.rank_machine.specs.declared.slot.Tile.TheVariants.{Words}
 use Rattle.rank_machine.specs.declared.record.Rec.TheVariants.{Feed}
-use Rattle.block_world.specs.declared.memory.Memory.{Memory}
-use Rattle.block_world.specs.Memory.{tile_at, HasRoom}
+use Rattle.rank_slots.specs.Rank.{Rank, with_tile}
+use Rattle.rank_slots.proofs.Kept.{lent_back}
+use Rattle.rank_slots.proofs.Residues.{strip_residues}
+use Rattle.rank_slots.proofs.Steps.{stands-put}
+use Rattle.rank_slots.proofs.Worlds.{live_is_there, residues-put}
+use Rattle.block_world.specs.Log.{recorded}
 use Rattle.block_world.specs.Replay.{view_of}
 use Rattle.block_world.specs.World.{setting_in, state_of}
-use Rattle.block_world.proofs.Memories.{seam}
-use Rattle.block_world.proofs.Replayed.{IsReplay-noted, HoldsStrips-feed, is_there, tile_at-put}
+use Rattle.block_world.proofs.Replayed.{IsReplay-noted, fields_are, legal_here, agrees}
 use Rattle.block_world.proofs.world.World.feed.Goals as goal
 
-pub make_room-requires : goal.make_room-requires
-make_room-requires c =
-    let v = c.self.view_is in
-    let legal = subst (λ w. IsLegalRec (setting_in w) (state_of w) (Feed c.args.rank c.args.slot)) (sym v) c.requires.legal in
-    subst (λ (ms : List Memory). c.args.rank < length ms) (sym c.deref_mut.ensures.value) (is_there c.self.inside c.args.rank c.self.invariant legal.live)
+pub put_on-requires-clause-rank : goal.put_on-requires-clause-rank
+put_on-requires-clause-rank g c =
+    let w = c.self.inside in
+    let now = view_of w.script.now w.files.now w.keeper in
+    let legal = legal_here now c.args.self.now (Feed c.args.rank c.args.slot) c.self.view_is c.requires.legal in
+    let there = live_is_there w.mems.items c.args.rank (c.self.invariant.stands.live c.args.rank ∙ legal.live) in
+    subst (λ ms. c.args.rank < length ms) (sym c.deref_mut.ensures.value) (slice_get_within w.mems.items c.args.rank there.0 there.1)
 
-pub put-requires : goal.put-requires
-put-requires c =
-    let first = c.make_room.auto.memories ∙ c.deref_mut.ensures.len in
-    subst (λ (ms : List Memory). HasRoom ms c.args.rank)
-    (sym (c.deref_mut-2.ensures.value ∙ seam c.self.inside.memories.len c.make_room.new.memories c.self.inside.memories.items first))
-    c.in_ok-make_room.ensures.room
+pub put_on-requires-clause-words : goal.put_on-requires-clause-words
+put_on-requires-clause-words g c =
+    let p = g.K.Field.MODULUS in
+    let w = c.self.inside in
+    let now = view_of w.script.now w.files.now w.keeper in
+    let s = setting_in now in
+    let legal = legal_here now c.args.self.now (Feed c.args.rank c.args.slot) c.self.view_is c.requires.legal in
+    let i = c.self.invariant in
+    strip_residues p s c.args.rank c.args.slot c.args.m (agrees p w.script.now w.files.now i.table i.sound i.lines).some (i.sound.files c.args.slot.id legal.matrix)
+    (ap (λ v. strip (setting_in v) c.args.rank c.args.slot) c.self.view_is ∙ c.requires.brings)
 
-pub invariant_of-self-2 : goal.invariant_of-self-2
-invariant_of-self-2 c =
-    let x = Feed c.args.rank c.args.slot in
-    let v = c.self.view_is in
-    let old = view_of c.self.inside in
-    let legal = subst (λ w. IsLegalRec (setting_in w) (state_of w) x) (sym v) c.requires.legal in
-    let first = c.make_room.auto.memories ∙ c.deref_mut.ensures.len in
-    let between = seam c.self.inside.memories.len c.make_room.new.memories c.self.inside.memories.items first in
-    let second = c.put.auto.memories ∙ c.deref_mut-2.ensures.len in
-    let final = seam c.self.inside.memories.len c.put.new.memories _ second in
-    let before = c.deref_mut-2.ensures.value ∙ between in
-    IsReplay-noted c.self.inside _ x refl c.self.invariant legal refl
-    (HoldsStrips-feed (setting_in old) (state_of old) c.args.rank c.args.slot c.self.invariant.holds legal)
-    c.self.invariant.drops_are
-    (ap length final ∙ c.put.auto.memories ∙ ap length before ∙ c.make_room.auto.memories ∙ ap length c.deref_mut.ensures.value)
-    c.in_ok-note.ensures.noted
-    c.self.invariant.mark_is
-    (λ rank slot. ap (λ ms. tile_at ms rank slot) final
-    ∙ tile_at-put c.put.new.memories c.deref_mut-2.result.now c.args.slot (Words c.args.m) (strip (setting_in old) c.args.rank c.args.slot) c.args.rank (state_of old).tiles
-    c.put.ensures
-    (ap (λ w. strip (setting_in w) c.args.rank c.args.slot) v ∙ c.requires.brings)
-    (λ other s. ap (λ ms. tile_at ms other s) before ∙ c.in_ok-make_room.ensures.tiles other s ∙ ap (λ ms. tile_at ms other s) c.deref_mut.ensures.value ∙ c.self.invariant.tiles_are other s)
-    rank slot)
+pub invariant_of-self-in-Ok : goal.invariant_of-self-in-Ok
+invariant_of-self-in-Ok g c =
+    let p = g.K.Field.MODULUS in
+    let w = c.self.inside in
+    let now = view_of w.script.now w.files.now w.keeper in
+    let s = setting_in now in
+    let rank = c.args.rank in
+    let slot = c.args.slot in
+    let r = Feed rank slot in
+    let i = c.self.invariant in
+    let x = machine w.mems.items w.links in
+    let legal = legal_here now c.args.self.now r c.self.view_is c.requires.legal in
+    let brings = ap (λ v. strip (setting_in v) rank slot) c.self.view_is ∙ c.requires.brings in
+    let there = live_is_there w.mems.items rank (i.stands.live rank ∙ legal.live) in
+    let f : Rank → Rank = λ m. with_tile m slot (Words c.args.m) in
+    let back = lent_back c.put_on.new.mems w.mems.items w.mems.len (c.put_on.auto.mems ∙ c.deref_mut.ensures.len) in
+    fields_are p w.script.now w.files.now c.note.new.self (recorded w.keeper r) _ (on_rank w.mems.items rank f) w.links w.mark c.in_ok-note.ensures.noted
+    (back ∙ c.in-Ok.ensures.done ∙ ap (λ ms. on_rank ms rank f) c.deref_mut.ensures.value)
+    (IsReplay-noted p now x (machine (on_rank w.mems.items rank f) w.links) w.mark w.mark r i
+    (record {
+      legal = legal;
+      one = refl;
+      stands = stands-put s i.table x (state_of now) rank f there.0 slot (strip s rank slot) there.1 (ap (λ t. with_tile there.0 slot t) (sym brings)) i.stands;
+      residues = residues-put p x rank slot (Words c.args.m) (strip_residues p s rank slot c.args.m (agrees p w.script.now w.files.now i.table i.sound i.lines).some (i.sound.files slot.id legal.matrix) brings) i.residues;
+      mark_is = i.mark_is;
+    }))
+
+pub invariant_of-self-in-Err : goal.invariant_of-self-in-Err
+invariant_of-self-in-Err g c =
+    let w = c.self.inside in
+    let back = lent_back c.put_on.new.mems w.mems.items w.mems.len (c.put_on.auto.mems ∙ c.deref_mut.ensures.len) in
+    fields_are g.K.Field.MODULUS w.script.now w.files.now c.take_back.new.self w.keeper _ w.mems.items w.links w.mark
+    (c.take_back.ensures w.keeper (Feed c.args.rank c.args.slot) c.in_ok-note.ensures.noted c.room-room.ensures)
+    (back ∙ c.in-Err.ensures.kept ∙ c.deref_mut.ensures.value)
+    c.self.invariant
