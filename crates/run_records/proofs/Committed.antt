@@ -7,17 +7,13 @@ use Rattle.rank_machine.specs.declared.mark.Mark.{Mark}
 use Rattle.rank_machine.specs.declared.record.Rec.{Rec}
 use Rattle.rank_machine.specs.Setting.{Setting, Job, is_matrix}
 use Rattle.rank_machine.specs.State.{State, Took, opened, first_mark, end_mark}
-use Rattle.rank_machine.specs.Effect.{after, replay, state_after, current, current_in, has_ended, is_live_matrix}
+use Rattle.rank_machine.specs.Effect.{replay, state_after, current, current_in, has_ended, is_live_matrix}
 use Rattle.run_records.specs.Records.{line_records, run_records}
 use Rattle.run_records.specs.Plain.{Rise, PrintsLive, IsPlain}
 use Rattle.run_records.specs.Stands.{Stands}
 use Rattle.run_records.specs.Taken.{line_takes, committed_takes, mark_after, AllStand}
+use Rattle.run_records.proofs.Holding.{replay-append}
 use Rattle.run_records.proofs.Takes.{line-committed}
-
--- ---- records one after another
-pub replay-append : (s : Setting) (st : State) (xs ys : List Rec) → replay s st (xs ++ ys) ≡ replay s (replay s st xs) ys
-replay-append s st [] ys = refl
-replay-append s st (x ∷ xs) ys = replay-append s (after s st x) xs ys
 
 pub run_records-push : (s : Setting) (js : List Job) (j : Job) → run_records s (js ++ j ∷ []) ≡ run_records s js ++ line_records s j
 run_records-push s [] j = append-nil (line_records s j)
@@ -25,7 +21,7 @@ run_records-push s (x ∷ xs) j =
     ap (λ (rs : List Rec). line_records s x ++ rs) (run_records-push s xs j) ∙ sym (append_assoc (line_records s x) (run_records s xs) (line_records s j))
 
 -- ---- which line is current
-before_ended : (line mine : ℕ) → mine ≤ line → has_ended (end_mark line) mine ≡ true
+pub before_ended : (line mine : ℕ) → mine ≤ line → has_ended (end_mark line) mine ≡ true
 before_ended line mine le = grind (arith, nat_tests)
 
 pub after_ended : (line later : ℕ) → line < later → has_ended (end_mark line) later ≡ false

@@ -5,11 +5,10 @@ use Rattle.std.specs.List.{Contains}
 use Rattle.std.proofs.lemmas.Bool.{eq-eqb, ne_eqb}
 use Rattle.std.proofs.lemmas.List.Elements.{Contains-append_right}
 use Rattle.run_data.specs.Script.{Numbered, command_at, makes_records}
-use Rattle.run_data.specs.declared.command.Command.{Command}
-use Rattle.run_data.specs.declared.command.Command.TheVariants as c
 use Rattle.blacs_grid.specs.declared.Grid.{Grid}
 use Rattle.rank_machine.specs.Setting.{Job, job_in}
 use Rattle.rank_machine.specs.Scripts.{job_of, jobs_from}
+use Rattle.rank_machine.proofs.Jobs.{job_of-line}
 use Rattle.run_records.specs.RunText.{LinesRise}
 
 pub Contains-head : {X : Type 0} (x : X) (xs : List X) → Contains (x ∷ xs) x
@@ -40,10 +39,6 @@ pub command_at-there : (ns : List Numbered) (n : Numbered) → LinesRise 0 ns �
 command_at-there ns n rise there = command_there 0 ns there.0 n rise there.1 there.2
 
 -- ---- the job of a line
-pub job_of-line : (ns : List Numbered) (grids : List Grid) (line : ℕ) (command : Command) → (job_of ns grids line command).line ≡ line
-job_of-line ns grids line (c.Grid name p q f) = refl
-job_of-line ns grids line _ = refl
-
 skipped : (b : Bool) (j : Job) (rest : List Job) (line : ℕ) → (j.line ≡ line → ⊥) → job_in (if b then j ∷ rest else rest) line ≡ job_in rest line
 skipped true j rest line other = ap (λ (b : Bool). if b then j else job_in rest line) (ne_eqb j.line line other)
 skipped false j rest line other = refl

@@ -2,6 +2,7 @@
 use Rattle.std.proofs.Common.{◌≡◌, ℕ, zero, suc, ◌+◌, ◌*◌, ◌<◌, ◌≤◌, Bool, true, false, List, [], ◌∷◌, ◌++◌, length, refl, sym, ap, subst, ◌∙◌, ⊎_elim, arith}
 use Rattle.std.specs.Prelude.{◌&&◌, ◌||◌, ◌==◌, nat_lt, map}
 use Rattle.std.specs.List.{flat_map, range_with_len}
+use Rattle.std.proofs.Math.Bool.{or_assoc}
 use Rattle.std.proofs.lemmas.Bool.{true≢false, eqb-true, eq-eqb, ltb-true, lt-ltb, and_parts, and_from, or_cases, or_left, or_right, false_from_ne_true, cases_lt, cases_eq}
 use Rattle.std.proofs.lemmas.List.FromFn.{length-map-range_with_len}
 use Rattle.blacs_grid.specs.declared.Scope.TheVariants.{All}
@@ -23,10 +24,6 @@ is_place x rank slot = (rank == x.rank) && same_slot slot x.slot
 abbrev pub has_place : List Place → ℕ → Slot → Bool
 has_place [] rank slot = false
 has_place (x ∷ xs) rank slot = is_place x rank slot || has_place xs rank slot
-
-or_assoc : (a b c : Bool) → ((a || b) || c) ≡ (a || (b || c))
-or_assoc true b c = refl
-or_assoc false b c = refl
 
 pub has_place-append : (xs ys : List Place) (rank : ℕ) (slot : Slot) → has_place (xs ++ ys) rank slot ≡ (has_place xs rank slot || has_place ys rank slot)
 has_place-append [] ys rank slot = refl

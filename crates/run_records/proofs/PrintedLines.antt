@@ -2,7 +2,7 @@
 use Rattle.std.proofs.Common.{◌≡◌, ℕ, zero, suc, ◌/◌, ◌<◌, ◌==◌, Bool, true, false, ◌&&◌, List, [], ◌∷◌, map, length, get_or, Option, Some, None, is_some, refl, sym, ap, ◌∙◌, subst, arith, ◌⊎◌, inl, inr}
 use Rattle.std.specs.Prelude.{if◌then◌else◌, nat_lt}
 use Rattle.std.specs.List.{All, Contains}
-use Rattle.std.proofs.lemmas.Bool.{and_parts, cases_Bool, eqb-true, lt-ltb, eq-eqb}
+use Rattle.std.proofs.lemmas.Bool.{and_parts, eqb-true, lt-ltb, eq-eqb}
 use Rattle.std.proofs.lemmas.List.Elements.{All-nil, All-head, All-tail, All-map, All-weaker}
 use Rattle.std.proofs.lemmas.List.{length-map, get_or-map}
 use Rattle.array_desc.specs.Maps.{owner}
@@ -22,6 +22,7 @@ use Rattle.rank_machine.proofs.Base.{same_slot-true}
 use Rattle.run_records.specs.Records.{Place, strip_places}
 use Rattle.run_records.specs.Plain.{IsLaidOut, IsPlain}
 use Rattle.run_records.specs.Taken.{took, line_takes, committed_takes}
+use Rattle.run_records.proofs.Steps.{makes_none}
 use Rattle.run_records.proofs.EntryPlaces.{All-flat_map, Contains-flat_map, strip_places-contains}
 
 -- ---- the last take that passes a test, where those that pass have one tile
@@ -73,14 +74,6 @@ committed_takes-strips s js = All-flat_map (HasStrip s) (line_takes s) js (λ k 
 Contains-map : {X Y : Type 0} (f : X → Y) (xs : List X) (x : X) → Contains xs x → Contains (map f xs) (f x)
 Contains-map f xs x h = (h.0, omega (arith, h.1, length-map xs f), get_or-map f xs h.0 x (f x) h.1 ∙ ap f h.2)
 
--- a print line is not one that makes a matrix
-makes_nothing : (s : Setting) (j : Job) → IsPlain s → Contains s.jobs j → 0 < j.prints → is_some j.makes ≡ false
-makes_nothing s j plain there some =
-    elim (cases_Bool (is_some j.makes)) [
-      | inl makes ↦ absurd (let z : j.prints ≡ 0 = plain.one_purpose j there makes in omega arith)
-      | inr nothing ↦ nothing
-    ]
-
 line_takes-print : (s : Setting) (j : Job) → is_some j.makes ≡ false → 0 < j.prints → line_takes s j ≡ map (took s j.line) (strip_places j.prints (layout s j.prints))
 line_takes-print s j nothing some = let p : nat_lt 0 j.prints ≡ true = lt-ltb 0 j.prints some in rw (nothing, p) refl
 
@@ -106,7 +99,7 @@ is_taken : (s : Setting) (j : Job) (i k : ℕ) → IsPlain s → Contains s.jobs
 is_taken s j i k plain there some laid k_in =
     let x : Place = record { rank = rank_of_entry (layout s j.prints) i k; slot = slot_of_entry (layout s j.prints) j.prints k } in
     Contains-flat_map (line_takes s) s.jobs j (took s j.line x) there
-    (subst (λ (ts : List Took). Contains ts (took s j.line x)) (sym (line_takes-print s j (makes_nothing s j plain there some) some))
+    (subst (λ (ts : List Took). Contains ts (took s j.line x)) (sym (line_takes-print s j (makes_none s j plain there some) some))
     (Contains-map (took s j.line) (strip_places j.prints (layout s j.prints)) x (has_place s j.prints i k laid k_in)))
 
 abbrev pub is_take_of : ℕ → ℕ → Slot → Took → Bool

@@ -1,5 +1,5 @@
--- Scripts that make grids and matrices, print matrices and drop them, and the text of their runs: each print gives the matrix of
--- the file of the line that it means.
+-- Scripts that make grids and matrices, print matrices and drop them, and say what links hold and in which order steps are taken; and the
+-- text of their runs: each print gives the matrix of the file of the line that it means.
 use Rattle.std.specs.Prelude.{◌≡◌, ℕ, ◌<◌, Bool, true, false, List, [], ◌∷◌, ◌++◌, Option, Some, None}
 use Rattle.run_data.specs.Matrix.{Matrix}
 use Rattle.run_data.specs.Script.{Numbered, command_at, maker}
@@ -23,12 +23,14 @@ pub record MeansMatrix (ns : List Numbered) (line : ℕ) (name : List ℕ) : Typ
   pub made : maker ns line name ≡ Some made_on
   pub matrix : is_matrix_line (command_at ns made_on) ≡ true
 
--- a command on a line that is a grid, a matrix, a drop, or the print of a matrix
+-- a command on a line that is a grid, a matrix, a drop, links, an order, or the print of a matrix
 abbrev pub IsPlainCommand : List Numbered → ℕ → Command → Type 0
 IsPlainCommand ns line (c.Grid name p q f) = Unit {0}
 IsPlainCommand ns line (c.Matrix name grid m n mb nb rsrc csrc file) = Unit {0}
 IsPlainCommand ns line (c.Discard name) = Unit {0}
 IsPlainCommand ns line (c.Print name) = MeansMatrix ns line name
+IsPlainCommand ns line (c.Links n) = Unit {0}
+IsPlainCommand ns line (c.Order numbers) = Unit {0}
 IsPlainCommand ns line _ = ⊥
 
 abbrev pub ArePlainCommands : List Numbered → List Numbered → Type 0

@@ -1,4 +1,5 @@
 //! The top call from words to bytes, over a shelf and sinks in memory.
+mod schedules;
 mod serial;
 
 use io_edge::{MemShelf, MemSink, Shelf};
@@ -187,14 +188,14 @@ fn files_with_faults() -> [Case; 5] {
 fn lines_not_run() -> [Case; 4] {
     [
         Case {
-            script: b"links 1\n",
+            script: b"links 1\ntopology d\norder 1\n",
             matrix: b"",
-            status: refused(1, 18),
+            status: refused(2, 18),
             out: b"",
-            err: b"refused file 0 line 1 code 18\n",
+            err: b"refused file 0 line 2 code 18\n",
         },
         Case {
-            script: b"links 1\nqr A\n",
+            script: b"topology d\nqr A\n",
             matrix: b"",
             status: refused(2, 1),
             out: b"",

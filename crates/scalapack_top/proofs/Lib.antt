@@ -4,6 +4,5 @@ pub mod Files
 pub mod Answered
 pub mod Named
 pub mod Runnable
-pub mod SerialPivots
 pub mod SerialReady
 pub mod SerialRun

@@ -1,6 +1,7 @@
 -- An accepted script with its files can be run, and its run is whole.
 use Rattle.std.proofs.Common.{◌≡◌, ℕ, true, List, ◌∷◌, Option, Some, sym, ap, subst, ◌∙◌}
 use Rattle.field_core.specs.Residue.{inverse}
+use Rattle.run_data.specs.Matrix.{AreWords}
 use Rattle.run_data.specs.declared.command.Command.{Command}
 use Rattle.run_data.specs.declared.command.Command.TheVariants as c
 use Rattle.run_data.specs.Script.{Numbered, commands_of, command_at}
@@ -16,13 +17,13 @@ use Rattle.run_records.proofs.Journal.{plain_run-journal, plain_run-ends}
 use Rattle.run_records.proofs.PlainRun.{state_after-stands}
 use Rattle.run_records.proofs.PrintedText.{plain_run-text}
 use Rattle.run_records.proofs.SerialText.{plain-serial}
-use Rattle.script_run.specs.Layouts.{makes_matrix}
+use Rattle.script_lines.specs.Layouts.{makes_matrix}
 use Rattle.script_run.specs.Runnable as run
-use Rattle.script_run.proofs.JobAt.{layout-is}
+use Rattle.script_lines.proofs.JobAt.{layout-is}
 use Rattle.script_run.proofs.AcceptedCommands.{accepted-commands, accepted-rise}
-use Rattle.script_run.proofs.AcceptedGrids.{accepted-grids}
 use Rattle.script_run.proofs.AcceptedMatrices.{matrix_line-from, FilesFit, accepted-shaped}
 use Rattle.script_run.proofs.AcceptedPlain.{accepted-plain}
+use Rattle.script_run.proofs.AcceptedSound.{accepted-sound}
 use Rattle.scalapack_top.specs.declared.words.Machine.TheVariants as machine
 use Rattle.scalapack_top.specs.Read.{HasFile, FileFits, IsReady}
 use Rattle.scalapack_top.specs.Run.{IsWholeRun}
@@ -49,9 +50,14 @@ module _ (script : List (Option Command)) (files : Matrices) (ready : IsReady ma
         shape = record { rows = h.residues.rows ∙ sym (ap (λ (d : Layout). d.desc.m) there); columns = h.residues.columns ∙ sym (ap (λ (d : Layout). d.desc.n) there) };
       }
 
+  words : (line : ℕ) → makes_matrix script line ≡ true → AreWords 65537 (file_of files line)
+  words line made =
+      let w = matrix_line-from script files line made in
+      (file_of_line line w.name w.grid w.m w.n w.mb w.nb w.rsrc w.csrc w.file w.is).residues.words
+
   pub can_run : run.IsRunnable script files
   can_run = record {
-    grids = accepted-grids script files ready.accepted;
+    sound = accepted-sound script files ready.accepted ready.runs words;
     plain = accepted-plain script files ready.accepted ready.runs;
     commands = accepted-commands script ready.accepted ready.runs;
     named = λ line name e. print-named script line name ready.accepted.lines e;

@@ -13,6 +13,7 @@ use Rattle.run_data.specs.declared.command.Command.TheVariants as c
 use Rattle.run_data.specs.Script.{Numbered, commands_of, command_at, maker_after, maker}
 use Rattle.rank_machine.specs.Scripts.{Matrices, file_of}
 use Rattle.elimination.specs.Whole.{AreRows}
+use Rattle.elimination.proofs.Numbers.{elimination-count, elimination-rows}
 use Rattle.serial_model.specs.Elimination.{eliminated_matrix}
 use Rattle.serial_model.specs.Solves.{product_of, solved_column, solved_with_factors, solved_unless, first_zero, triangle_solved, factors_solved, window, window_copied}
 use Rattle.serial_model.specs.Serial as model
@@ -25,7 +26,6 @@ use Rattle.run_records.specs.RunText.{LinesRise}
 use Rattle.run_records.proofs.Names.{commands-rise, IsLeft, all_left, next_left, maker-here}
 use Rattle.script_run.proofs.AcceptedCommands.{AreThere, there-all, there-first, there-later}
 use Rattle.scalapack_top.specs.Read.{HasFile}
-use Rattle.scalapack_top.proofs.SerialPivots.{ArePivots, pivots_are_rows}
 
 -- ---- what values fit the lines that made them
 -- the rows and the columns of the matrix that a line made, or of the one that it factored
@@ -50,7 +50,8 @@ pub record IsMatrixOf (m n : ℕ) (value : Option model.Value) : Type 0 where
 pub record IsListOf (m n : ℕ) (value : Option model.Value) : Type 0 where
   pub list : List ℕ
   pub is : value ≡ Some (model.rows list)
-  pub pivots : ArePivots (min m n) m list
+  pub count : length list ≡ min m n
+  pub rows : AreRows list 0 (min m n) m
   pub short : m < 2 ^ 32
 
 -- a value fits the command that made it
@@ -211,12 +212,11 @@ module _ (ns : List Numbered) (files : Matrices) (line : ℕ) (values : Values) 
   rows_of_list : (k m n : ℕ) (value : Option model.Value) → IsListOf m n value → m ≡ k → n ≡ k → (k ≤ length (list_in value)) × AreRows (list_in value) 0 k k
   rows_of_list k m n value h em en =
       let is : list_in value ≡ h.list = ap list_in h.is in
-      let p = h.pivots in
-      let count = p.count in (
+      let count = h.count in (
         subst (λ (v : List ℕ). k ≤ length v) (sym is) (omega (arith, count, em, en)),
         subst (λ (v : List ℕ). AreRows v 0 k k) (sym is) (record {
-          from = λ i lo hi. p.from i (omega (arith, hi, em, en));
-          to = λ i lo hi. (let below = p.to i (omega (arith, hi, em, en)) in omega (arith, below, em));
+          from = λ i lo hi. h.rows.from i lo (omega (arith, hi, em, en));
+          to = λ i lo hi. (let below = h.rows.to i lo (omega (arith, hi, em, en)) in omega (arith, below, em));
         }),
       )
 
@@ -262,7 +262,7 @@ module _ (ns : List Numbered) (files : Matrices) (line : ℕ) (values : Values) 
   pivots : (name : List ℕ) → AsksPivots ns line name → CanPrint values name
   pivots name asks =
       let h = list_named name asks.list in
-      let count = h.pivots.count in
+      let count = h.count in
       let short = h.short in
       let few : length h.list < 2 ^ 32 = omega (arith, count, short) in
       record { value = (model.rows h.list, h.is, few); named = asks.named }
@@ -364,11 +364,14 @@ module _ (ns : List Numbered) (files : Matrices) (line : ℕ) (values : Values) 
       let h = matrix_named ns files line values fits a asks.matrix in
       let er : x.rows ≡ m = rows_in h ∙ sym asks.rows in
       let ec : cols x ≡ n = columns_in h ∙ sym asks.columns in
-      let pivots = pivots_are_rows 65537 (inverse 65537) x in
+      let list = (factored 65537 (inverse 65537) values a).pivots in
+      let count = elimination-count 65537 (inverse 65537) x.rows (cols x) (entry x) in
+      let rows = elimination-rows 65537 (inverse 65537) x.rows (cols x) (entry x) in
       record {
-        list = (factored 65537 (inverse 65537) values a).pivots;
+        list = list;
         is = refl;
-        pivots = subst (λ (k : ℕ). ArePivots (min k n) k (factored 65537 (inverse 65537) values a).pivots) er (subst (λ (k : ℕ). ArePivots (min x.rows k) x.rows (factored 65537 (inverse 65537) values a).pivots) ec pivots);
+        count = omega (arith, count, er, ec);
+        rows = subst (λ (k : ℕ). AreRows list 0 (min k n) k) er (subst (λ (k : ℕ). AreRows list 0 (min x.rows k) x.rows) ec rows);
         short = asks.few;
       }
 

@@ -1,8 +1,8 @@
 -- An accepted script with its files can be run serially: the rules of its lines give what each command asks.
-use Rattle.std.proofs.Common.{◌≡◌, ℕ, ◌+◌, ◌-◌, ◌<◌, ◌≤◌, Bool, true, false, List, Option, Some, None, refl, sym, subst, ◌∙◌, arith}
+use Rattle.std.proofs.Common.{◌≡◌, ℕ, ◌+◌, ◌-◌, ◌<◌, ◌≤◌, true, List, Option, Some, None, refl, sym, subst, ◌∙◌, arith}
 use Rattle.std.specs.Prelude.{◌&&◌, ◌==◌, not, nat_le}
 use Rattle.std.specs.Str.{bytes_eq}
-use Rattle.std.proofs.lemmas.Bool.{false≢true, eqb-true, leb-true, and_parts}
+use Rattle.std.proofs.lemmas.Bool.{false≢true, not-true, eqb-true, leb-true, and_parts}
 use Rattle.run_data.specs.declared.command.Command.{Command}
 use Rattle.run_data.specs.declared.command.Command.TheVariants as c
 use Rattle.run_data.specs.Script.{Numbered, commands_of, command_at, maker}
@@ -48,10 +48,6 @@ shape_of : (ns : List Numbered) (line : ℕ) (name : List ℕ) → HasSizes (lay
 shape_of ns line name sizes = shape_made ns (maker ns line name) (maker_command ns line name) sizes.some_rows
 
 -- ---- tests
-not_true : (b : Bool) → not b ≡ true → b ≡ false
-not_true true h = absurd (false≢true h)
-not_true false h = refl
-
 word_below : (n : ℕ) → nat_le n MAX_SCALAR ≡ true → n < 65537
 word_below n h = (let le : n ≤ 65536 = leb-true n MAX_SCALAR h in omega (arith, le))
 
@@ -85,8 +81,8 @@ module _ (script : List (Option Command)) (keeps : KeepsRules script) where
         left = first.made;
         right = second.made;
         changed = third.made;
-        not_left = not_true (bytes_eq x a) apart.0;
-        not_right = not_true (bytes_eq x b) apart.1;
+        not_left = not-true (bytes_eq x a) apart.0;
+        not_right = not-true (bytes_eq x b) apart.1;
         alpha_below = word_below alpha rules.1.1.1.1.1.0;
         beta_below = word_below beta rules.1.1.1.1.1.1.1.1.1.1.1.1.1.0;
         rows = sym first.rows ∙ sym m_is ∙ sym rows_are ∙ third.rows;
@@ -109,7 +105,7 @@ module _ (script : List (Option Command)) (keeps : KeepsRules script) where
         system = record {
           matrix = first.made;
           right_side = second.made;
-          other = not_true (bytes_eq b a) rules.1.1.1.1.1.1.1.1.1.1.1.0;
+          other = not-true (bytes_eq b a) rules.1.1.1.1.1.1.1.1.1.1.1.0;
           square = sym first.columns ∙ square_is ∙ m_is ∙ first.rows;
           rows = sym second.rows ∙ rows_are ∙ m_is ∙ first.rows;
         };
@@ -171,7 +167,7 @@ module _ (script : List (Option Command)) (keeps : KeepsRules script) where
         system = record {
           matrix = first.made;
           right_side = second.made;
-          other = not_true (bytes_eq b a) rules.1.1.1.1.1.1.1.1.0;
+          other = not-true (bytes_eq b a) rules.1.1.1.1.1.1.1.1.0;
           square = sym first.columns ∙ square_is ∙ n_is ∙ first.rows;
           rows = sym second.rows ∙ rows_are ∙ n_is ∙ first.rows;
         };
@@ -196,7 +192,7 @@ module _ (script : List (Option Command)) (keeps : KeepsRules script) where
       record {
         source = first.made;
         changed = second.made;
-        other = not_true (bytes_eq b a) rules.1.1.1.1.0;
+        other = not-true (bytes_eq b a) rules.1.1.1.1.0;
         from_row = rows_in_a.0;
         from_column = columns_in_a.0;
         to_row = rows_in_b.0;

@@ -1,4 +1,4 @@
--- The commands of an accepted script: grids, matrices, drops, and prints of matrices, on lines that rise.
+-- The commands of an accepted script that the ranks can run: grids, matrices, drops, prints of matrices, links and orders, on lines that rise.
 use Rattle.std.proofs.Common.{◌≡◌, ℕ, List, [], ◌∷◌, Option, Some, None, ap}
 use Rattle.std.specs.List.{Contains}
 use Rattle.std.proofs.lemmas.Bool.{false≢true}
@@ -36,6 +36,8 @@ IsPlainCommand-from_KeepsRules script line (c.Grid name p q f) h runs e = tt
 IsPlainCommand-from_KeepsRules script line (c.Matrix name grid m n mb nb rsrc csrc file) h runs e = tt
 IsPlainCommand-from_KeepsRules script line (c.Discard name) h runs e = tt
 IsPlainCommand-from_KeepsRules script line (c.Print name) h runs e = MeansMatrix-from_print script line name h e
+IsPlainCommand-from_KeepsRules script line (c.Links n) h runs e = tt
+IsPlainCommand-from_KeepsRules script line (c.Order numbers) h runs e = tt
 IsPlainCommand-from_KeepsRules script line command h runs e = absurd (false≢true (run_kept script line command runs e))
 
 plain-from : (script : List (Option Command)) (more : List Numbered) → KeepsRules script → first_unrunnable (commands_of script) ≡ None → AreThere (commands_of script) more → ArePlainCommands (commands_of script) more

@@ -15,7 +15,7 @@ use Rattle.script_text.specs.Rules.{total_after, ranks_made as ranks_of_command}
 use Rattle.script_text.specs.Accepted.{KeepsRules, IsAccepted}
 use Rattle.script_text.proofs.Limits.{HasLimits, limits_of_grid, ranks_few}
 use Rattle.run_records.specs.RunText.{LinesRise}
-use Rattle.block_world.specs.Sound.{AreGrids}
+use Rattle.script_lines.specs.Layouts.{AreGrids}
 use Rattle.script_run.proofs.AcceptedCommands.{AreThere, there-all, there-first, there-later}
 
 -- ---- the ranks of the grids

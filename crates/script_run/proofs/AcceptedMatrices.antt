@@ -19,7 +19,7 @@ use Rattle.run_records.specs.Plain.{IsLaidOut}
 use Rattle.run_records.specs.RunText.{is_matrix_line}
 use Rattle.run_records.specs.Taken.{AllShaped}
 use Rattle.run_records.proofs.Names.{commands-rise}
-use Rattle.script_run.proofs.JobAt.{job_for, job-in_script, matrix_line-is, is_matrix_command, layout-is}
+use Rattle.script_lines.proofs.JobAt.{job_for, job-in_script, matrix_line-is, is_matrix_command, layout-is}
 use Rattle.script_run.proofs.AcceptedGrids.{LiesAt, LiesAt-from, IsGrid-from_limits, sizes-few}
 
 -- ---- the words of a matrix line

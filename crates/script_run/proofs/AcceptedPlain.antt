@@ -9,15 +9,15 @@ use Rattle.blacs_grid.specs.declared.Grid.{Grid}
 use Rattle.rank_machine.specs.declared.record.Loss.{Loss}
 use Rattle.rank_machine.specs.Setting.{Setting, Job, job, is_matrix, factored}
 use Rattle.rank_machine.specs.Scripts.{Matrices, job_of, jobs_from, grids_from, loss_made, losses_in, line_meant, setting_of}
+use Rattle.rank_machine.proofs.Jobs.{job_of-line}
 use Rattle.script_text.specs.Accepted.{IsAccepted}
 use Rattle.script_text.specs.Runs.{can_run, first_unrunnable}
 use Rattle.script_text.proofs.Limits.{run_kept}
 use Rattle.run_records.specs.Plain.{Rise, IsPlain}
 use Rattle.run_records.specs.RunText.{LinesRise, MeansMatrix}
 use Rattle.run_records.proofs.Names.{commands-rise, line_meant-print, matrix_line-above}
-use Rattle.run_records.proofs.LineJobs.{job_of-line}
 use Rattle.run_records.proofs.FromJobs.{OnePurpose, one_purpose-from}
-use Rattle.script_run.proofs.JobAt.{job_for, job-in_script}
+use Rattle.script_lines.proofs.JobAt.{job_for, job-in_script}
 use Rattle.script_run.proofs.AcceptedCommands.{AreThere, there-all, there-first, there-later, MeansMatrix-from_print}
 use Rattle.script_run.proofs.AcceptedMatrices.{matrix_line-makes, laid_out}
 use Rattle.script_run.proofs.AcceptedPrints.{prints_live}

@@ -13,13 +13,14 @@ use Rattle.rank_machine.specs.Setting.{Setting, Job, some_job, is_matrix}
 use Rattle.rank_machine.specs.Scripts.{Matrices, job_of, jobs_from, grids_from, line_meant, setting_of}
 use Rattle.rank_machine.specs.State.{end_mark}
 use Rattle.rank_machine.specs.Effect.{has_ended, is_dropped, is_live_matrix}
+use Rattle.rank_machine.proofs.Jobs.{job_of-line}
 use Rattle.script_text.specs.Accepted.{KeepsRules}
 use Rattle.script_text.specs.Runs.{first_unrunnable}
 use Rattle.script_text.proofs.Limits.{NameKept, drop_kept, maker-lt}
 use Rattle.run_records.specs.Plain.{PrintsLive}
 use Rattle.run_records.specs.RunText.{is_matrix_line, LinesRise, MeansMatrix}
 use Rattle.run_records.proofs.Names.{commands-rise, matrix_line-above, IsLeft, all_left, next_left, maker-here, command-here, line_meant-print}
-use Rattle.run_records.proofs.LineJobs.{job_of-line}
+use Rattle.run_records.proofs.Committed.{before_ended}
 use Rattle.script_run.proofs.AcceptedCommands.{AreThere, there-all, there-first, there-later, MeansMatrix-from_print}
 use Rattle.script_run.proofs.AcceptedGrids.{command-above}
 use Rattle.script_run.proofs.AcceptedMatrices.{matrix_line-makes}
@@ -121,9 +122,6 @@ module _ (script : List (Option Command)) (h : KeepsRules script) (runs : first_
 ended_low : (before line : ℕ) → has_ended (end_mark before) line ≡ true → line ≤ before
 ended_low before line e = grind (arith, nat_tests)
 
-low_ended : (before line : ℕ) → line ≤ before → has_ended (end_mark before) line ≡ true
-low_ended before line low = grind (arith, nat_tests)
-
 -- among the commands up to a line, none drops a matrix
 abbrev NoDrop : List Numbered → ℕ → ℕ → Type 0
 NoDrop ns before what = (k : ℕ) (dropped : List ℕ) → k ≤ before → command_at ns k ≡ Some (c.Discard dropped) → line_meant ns k 1 ≡ what → ⊥
@@ -187,7 +185,7 @@ module _ (script : List (Option Command)) (files : Matrices) (h : KeepsRules scr
       let none : NoDrop ns before what = λ k dropped le there meant. is_known.kept name what k dropped known_is (omega (arith, le, low)) there meant in
       let live : is_live_matrix s (end_mark before) what ≡ true =
       and_from (is_matrix s what && has_ended (end_mark before) what) (not (is_dropped s (end_mark before) what))
-      (and_from (is_matrix s what) (has_ended (end_mark before) what) (matrix_line-makes script files what means.matrix) (low_ended before what ended))
+      (and_from (is_matrix s what) (has_ended (end_mark before) what) (matrix_line-makes script files what means.matrix) (before_ended before what ended))
       (not_from_false (is_dropped s (end_mark before) what) (not_dropped ns (grids_from 0 ns) before what some none ns (there-all script))) in
       ap (is_live_matrix s (end_mark before)) (line_meant-print ns n.line name e means) ∙ live
 

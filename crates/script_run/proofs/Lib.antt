@@ -1,9 +1,9 @@
 mod Noting
 mod Placed
-pub mod JobAt
 pub mod AcceptedCommands
 pub mod AcceptedGrids
 pub mod AcceptedMatrices
 pub mod AcceptedPrints
 pub mod AcceptedPlain
 mod Underway
+pub mod AcceptedSound

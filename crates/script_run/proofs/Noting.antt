@@ -1,6 +1,5 @@
 -- Records noted one after another.
 use Rattle.std.proofs.Common.{◌≡◌, ◌+◌, ◌-◌, ◌<◌, ◌≤◌, ℕ, suc, List, [], ◌∷◌, ◌++◌, refl, sym, ap, subst, ◌∙◌, append_assoc, arith}
-use Rattle.std.specs.Prelude.{Result, Ok, Err, OnOk}
 use Rattle.std.proofs.lemmas.List.{append-nil}
 use Rattle.std.specs.List.{range_with_len}
 use Rattle.rank_machine.specs.declared.record.Rec.{Rec}
@@ -8,8 +7,8 @@ use Rattle.rank_machine.specs.State.{State}
 use Rattle.rank_machine.specs.Effect.{after}
 use Rattle.rank_machine.specs.Legal.{IsLegalRec, IsLegalFrom}
 use Rattle.rank_machine.proofs.Runs.{state_after-push}
-use Rattle.block_world.specs.World.{WorldView, setting_in, state_of, noted}
-use Rattle.script_run.specs.Noted.{noted_all, MayNote}
+use Rattle.block_world.specs.World.{WorldView, setting_in, state_of, noted, noted_all}
+use Rattle.script_run.specs.Noted.{MayNote}
 
 -- where a world stands after one more record
 pub state_of-noted : (w : WorldView) (r : Rec) → state_of (noted w r) ≡ after (setting_in w) (state_of w) r
@@ -87,11 +86,6 @@ none-left i n le = let e : n - i ≡ 0 = omega (arith, le) in ap (λ k. range_wi
 pub setting-noted_all : (w : WorldView) (rs : List Rec) → setting_in (noted_all w rs) ≡ setting_in w
 setting-noted_all w [] = refl
 setting-noted_all w (r ∷ rs) = setting-noted_all (noted w r) rs
-
--- what holds of a value also holds of a further one
-pub on_ok : {T E : Type 0} (r : Result T E) (P Q : Type 0) → OnOk r P → (P → Q) → OnOk r Q
-on_ok (Ok x) P Q h f = f h
-on_ok (Err e) P Q h f = tt
 
 -- records, and then more of them
 pub then-noted : (w middle new : WorldView) (rs ts : List Rec) → middle ≡ noted_all w rs → new ≡ noted_all middle ts → new ≡ noted_all w (rs ++ ts)

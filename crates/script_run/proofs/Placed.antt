@@ -13,14 +13,13 @@ use Rattle.rank_machine.specs.Setting.{Setting, Layout, layout, strip_of}
 use Rattle.rank_machine.specs.State.{State}
 use Rattle.rank_machine.specs.Effect.{words_of, strip}
 use Rattle.rank_machine.specs.CodeLaw.{slot_at}
-use Rattle.block_world.specs.World.{WorldView, state_of, noted}
+use Rattle.block_world.specs.World.{WorldView, state_of, noted, noted_all}
 use Rattle.block_world.specs.declared.world.Taken.{Taken}
 use Rattle.block_world.specs.declared.world.Taken.TheVariants as taken
 use Rattle.block_world.specs.Taken.{tile_taken}
 use Rattle.dist_matrix.specs.Strips.{HasShape, HasStripShape, with_strip, with_strips}
 use Rattle.dist_matrix.proofs.StripLaws.{HasStripShape-strip_of, with_strips-append}
 use Rattle.run_records.specs.Records.{Place, feeds, takes}
-use Rattle.script_run.specs.Noted.{noted_all}
 use Rattle.script_run.proofs.Noting.{state_of-noted, range-next}
 
 -- the strip that a feed brings

@@ -1,10 +1,10 @@
 -- The run of a script, one line after another.
-use Rattle.std.proofs.Common.{◌≡◌, ℕ, suc, ◌<◌, Bool, true, false, cond, List, [], ◌∷◌, ◌++◌, Option, Some, None, refl, sym, ap, subst, ◌∙◌, append_assoc, length, get_or, drop, ◌+◌, arith}
-use Rattle.std.proofs.lemmas.List.{append-nil, drop_more}
+use Rattle.std.proofs.Common.{◌≡◌, ℕ, ◌<◌, Bool, true, false, cond, List, [], ◌∷◌, ◌++◌, Option, Some, None, refl, sym, ap, subst, ◌∙◌, append_assoc}
+use Rattle.std.proofs.lemmas.List.{append-nil}
 use Rattle.std.proofs.lemmas.Bool.{lt-ltb}
 use Rattle.run_data.specs.declared.command.Command.{Command}
 use Rattle.run_data.specs.declared.command.Command.TheVariants as c
-use Rattle.run_data.specs.Script.{Numbered, commands_of, commands_from, makes_records}
+use Rattle.run_data.specs.Script.{Numbered, commands_of, makes_records}
 use Rattle.rank_machine.specs.declared.slot.SlotKind.TheVariants.{Data}
 use Rattle.rank_machine.specs.declared.record.Rec.{Rec}
 use Rattle.rank_machine.specs.declared.record.Rec.TheVariants as r
@@ -14,7 +14,7 @@ use Rattle.rank_machine.specs.State.{State, first_mark, end_mark}
 use Rattle.rank_machine.specs.Effect.{state_after, is_live_matrix, strip}
 use Rattle.rank_machine.specs.CodeLaw.{slot_at}
 use Rattle.rank_machine.specs.Legal.{IsLegalFrom}
-use Rattle.block_world.specs.World.{WorldView, setting_in, state_of}
+use Rattle.block_world.specs.World.{WorldView, setting_in, state_of, noted_all}
 use Rattle.run_records.specs.Records.{line_records, run_records, strip_places, takes}
 use Rattle.run_records.specs.RunText.{IsPlainCommand, ArePlainCommands, MeansMatrix, text_said, run_text}
 use Rattle.run_records.specs.Stands.{Stands}
@@ -25,11 +25,11 @@ use Rattle.run_records.specs.Taken.{mark_after}
 use Rattle.run_records.proofs.PlainRun.{line-legal, state_after-stands, IsNextJob-split}
 use Rattle.run_records.proofs.Committed.{run_records-push}
 use Rattle.run_records.proofs.Names.{line_meant-print}
-use Rattle.script_run.specs.Layouts.{jobs_of, makes_matrix, layout_in}
-use Rattle.script_run.specs.Noted.{noted_all, MayNote, HoldsMatrix}
+use Rattle.script_lines.specs.Layouts.{jobs_of, makes_matrix, layout_in}
+use Rattle.script_run.specs.Noted.{MayNote, HoldsMatrix}
 use Rattle.script_run.specs.Runnable.{IsRunnable, IsOf, MayRunLine, printed_on, job_on, records_of, script_records}
 use Rattle.script_run.proofs.Noting.{script-noted_all, files-noted_all, journal-noted_all}
-use Rattle.script_run.proofs.JobAt.{made-positive}
+use Rattle.script_lines.proofs.JobAt.{made-positive}
 use Rattle.script_run.proofs.AcceptedCommands.{AreThere, there-all, there-first, there-later}
 use Rattle.script_run.proofs.AcceptedMatrices.{matrix_line-makes}
 
@@ -177,20 +177,3 @@ underway-text script files w text way = sym (append-nil text) ∙ way.said
 
 pub underway-journal : (script : List (Option Command)) (files : Matrices) (w : WorldView) (text : List ℕ) → Underway script files [] w text → w.journal ≡ script_records script files
 underway-journal script files w text way = way.journal ∙ ap (run_records (setting_of script files)) (sym (way.jobs ∙ append-nil way.done))
-
--- ---- the commands of the lines that are left
-commands_left : (lines : List (Option Command)) (i : ℕ) (d : Option Command) → i < length lines → commands_from (suc i) (drop i lines) ≡ commands_from (suc i) (get_or lines i d ∷ drop (i + 1) lines)
-commands_left lines i d lt = ap (commands_from (suc i)) (drop_more lines i d lt)
-
-pub left-some : (lines : List (Option Command)) (i : ℕ) (d : Option Command) (command : Command) → i < length lines → get_or lines i d ≡ Some command
-    → commands_from (suc i) (drop i lines) ≡ record { line = i + 1; command = command } ∷ commands_from (suc (i + 1)) (drop (i + 1) lines)
-left-some lines i d command lt e =
-    let k : suc i ≡ i + 1 = omega arith in
-    commands_left lines i d lt ∙ ap (λ o. commands_from (suc i) (o ∷ drop (i + 1) lines)) e
-    ∙ ap (λ (m : ℕ). record { line = m; command = command } ∷ commands_from (suc m) (drop (i + 1) lines)) k
-
-pub left-none : (lines : List (Option Command)) (i : ℕ) (d : Option Command) → i < length lines → get_or lines i d ≡ None
-    → commands_from (suc i) (drop i lines) ≡ commands_from (suc (i + 1)) (drop (i + 1) lines)
-left-none lines i d lt e =
-    let k : suc i ≡ i + 1 = omega arith in
-    commands_left lines i d lt ∙ ap (λ o. commands_from (suc i) (o ∷ drop (i + 1) lines)) e ∙ ap (λ (m : ℕ). commands_from (suc m) (drop (i + 1) lines)) k

@@ -1,4 +1,4 @@
--- A world after several records, one after another.
+-- Records that are legal from where a world stands, and ranks that hold a matrix.
 use Rattle.std.specs.Prelude.{ℕ, List, [], ◌∷◌, Some, ◌≡◌}
 use Rattle.run_data.specs.Matrix.{Matrix}
 use Rattle.rank_machine.specs.declared.slot.SlotKind.TheVariants.{Data}
@@ -8,13 +8,8 @@ use Rattle.rank_machine.specs.Setting.{Layout, strip_of}
 use Rattle.rank_machine.specs.State.{State}
 use Rattle.rank_machine.specs.CodeLaw.{slot_at}
 use Rattle.rank_machine.specs.Legal.{IsLegalFrom}
-use Rattle.block_world.specs.World.{WorldView, setting_in, state_of, noted}
+use Rattle.block_world.specs.World.{WorldView, setting_in, state_of}
 use Rattle.dist_matrix.specs.Strips.{NamesStrip}
-
--- the world with these records at the journal's end
-abbrev pub noted_all : WorldView → List Rec → WorldView
-noted_all w [] = w
-noted_all w (r ∷ rs) = noted_all (noted w r) rs
 
 -- these records are legal from where a world stands
 abbrev pub MayNote : WorldView → List Rec → Type 0

@@ -9,13 +9,13 @@ use Rattle.run_data.specs.Script.{commands_of, command_at, makes_records}
 use Rattle.rank_machine.specs.declared.record.Rec.{Rec}
 use Rattle.rank_machine.specs.Setting.{Job}
 use Rattle.rank_machine.specs.Scripts.{Matrices, file_of, grids_from, job_of, line_meant, setting_of}
-use Rattle.block_world.specs.Sound.{AreGrids}
+use Rattle.script_lines.specs.Sound.{IsSound}
 use Rattle.block_world.specs.World.{WorldView, state_of}
 use Rattle.dist_matrix.specs.Strips.{HasShape}
 use Rattle.run_records.specs.Records.{line_records, run_records}
 use Rattle.run_records.specs.Plain.{IsPlain}
 use Rattle.run_records.specs.RunText.{IsPlainCommand, ArePlainCommands}
-use Rattle.script_run.specs.Layouts.{jobs_of, makes_matrix, layout_in}
+use Rattle.script_lines.specs.Layouts.{AreGrids, jobs_of, makes_matrix, layout_in}
 use Rattle.script_run.specs.Noted.{MayNote, HoldsMatrix}
 
 -- a matrix line has its file
@@ -24,9 +24,9 @@ pub record HasFile (script : List (Option Command)) (files : Matrices) (line : �
   pub shaped : IsShaped (file_of files line)
   pub shape : HasShape (layout_in script line) (file_of files line)
 
--- a script of grids, matrices, prints and drops, with the files of its matrices
+-- a script of plain commands alone, with the files of its matrices
 pub record IsRunnable (script : List (Option Command)) (files : Matrices) : Type 0 where
-  pub grids : AreGrids (grids_from 0 (commands_of script))
+  pub sound : IsSound 65537 (setting_of script files)
   pub plain : IsPlain (setting_of script files)
   pub commands : ArePlainCommands (commands_of script) (commands_of script)
   pub named : (line : ℕ) (name : List ℕ) → command_at (commands_of script) line ≡ Some (Print name) → IsUtf8 name

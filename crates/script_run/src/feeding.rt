@@ -2,23 +2,24 @@
 ghost use Rattle.std.specs.Prelude.{◌≡◌, ◌<◌, OnOk};
 ghost use Rattle.rank_machine.specs.Setting as machine;
 ghost use Rattle.rank_machine.specs.Setting.{group_count};
-ghost use Rattle.block_world.specs.World.{setting_in};
-ghost use Rattle.dist_matrix.specs.Strips.{IsLayout, HasShape};
+ghost use Rattle.block_world.specs.World.{setting_in, noted_all};
+ghost use Rattle.dist_matrix.specs.Strips.{HasShape};
 ghost use Rattle.run_records.specs.Records.{group_places, strip_places, feeds};
-ghost use Rattle.script_run.specs.Layouts.{seen};
-ghost use Rattle.script_run.specs.Noted.{noted_all, MayNote};
+ghost use Rattle.script_lines.specs.Layouts.{IsLayout, seen};
+ghost use Rattle.script_run.specs.Noted.{MayNote};
 
-use crate::layouts::Layout;
 use array_desc::groups;
 use blacs_grid::Scope;
 use block_world::{Mat, Slot, SlotKind, World};
 use dist_matrix::strip;
+use field_core::F65537;
+use script_lines::Layout;
 use std::alloc::{AllocError, Global};
 
 // Feeds the strips of one group, the data ranks row by row.
 fn feed_group(
     alloc: Global,
-    world: &mut World<'_>,
+    world: &mut World<'_, F65537>,
     m: &Mat,
     layout: Layout,
     line: u32,
@@ -48,7 +49,7 @@ fn feed_group(
 /// Feeds every strip of a matrix: its groups by rising number, in each the data ranks row by row.
 pub fn feed_matrix(
     alloc: Global,
-    world: &mut World<'_>,
+    world: &mut World<'_, F65537>,
     m: &Mat,
     layout: Layout,
     line: u32,

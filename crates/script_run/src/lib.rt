@@ -3,7 +3,6 @@
 #![tactic(auto)]
 
 mod feeding;
-mod layouts;
 mod lines;
 mod printing;
 mod running;

@@ -4,22 +4,23 @@ ghost use Rattle.run_data.specs.Matrix.{IsShaped};
 ghost use Rattle.rank_machine.specs.Setting as machine;
 ghost use Rattle.rank_machine.specs.State.{end_mark};
 ghost use Rattle.rank_machine.specs.declared.record.Rec.TheVariants.{Commit};
-ghost use Rattle.block_world.specs.World.{setting_in, state_of};
-ghost use Rattle.dist_matrix.specs.Strips.{IsLayout, HasShape};
+ghost use Rattle.block_world.specs.World.{setting_in, state_of, noted_all};
+ghost use Rattle.dist_matrix.specs.Strips.{HasShape};
 ghost use Rattle.serial_model.specs.Text.{matrix_text};
 ghost use Rattle.run_records.specs.Records.{strip_places, feeds, takes};
-ghost use Rattle.script_run.specs.Layouts.{seen};
-ghost use Rattle.script_run.specs.Noted.{noted_all, MayNote, HoldsMatrix};
+ghost use Rattle.script_lines.specs.Layouts.{IsLayout, seen};
+ghost use Rattle.script_run.specs.Noted.{MayNote, HoldsMatrix};
 
 use crate::feeding::feed_matrix;
-use crate::layouts::Layout;
 use crate::printing::take_matrix;
 use block_world::{Mark, Mat, World};
+use field_core::F65537;
+use script_lines::Layout;
 use script_text::matrix_text;
 use std::alloc::{AllocError, Global};
 
 /// Ends a line by its commit.
-pub fn end_line(world: &mut World<'_>, line: u32) -> Result<(), AllocError>
+pub fn end_line(world: &mut World<'_, F65537>, line: u32) -> Result<(), AllocError>
     requires { MayNote world.old (Commit (end_mark line) false ∷ []) }
     ensures { OnOk result (world.new ≡ noted_all world.old (Commit (end_mark line) false ∷ [])) }
 {
@@ -30,7 +31,7 @@ pub fn end_line(world: &mut World<'_>, line: u32) -> Result<(), AllocError>
 /// Makes a matrix: feeds its strips and ends its line.
 pub fn make_matrix(
     alloc: Global,
-    world: &mut World<'_>,
+    world: &mut World<'_, F65537>,
     m: &Mat,
     layout: Layout,
     line: u32,
@@ -49,7 +50,7 @@ pub fn make_matrix(
 /// Prints the matrix that a line made: takes its strips, adds its text and ends the line of the print.
 pub fn print_matrix(
     alloc: Global,
-    world: &mut World<'_>,
+    world: &mut World<'_, F65537>,
     layout: Layout,
     what: u32,
     line: u32,

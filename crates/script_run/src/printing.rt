@@ -2,22 +2,23 @@
 ghost use Rattle.std.specs.Prelude.{◌≡◌, ◌<◌, OnOk, IfOk};
 ghost use Rattle.run_data.specs.Matrix.{IsShaped};
 ghost use Rattle.rank_machine.specs.Setting.{group_count};
-ghost use Rattle.block_world.specs.World.{setting_in, state_of};
-ghost use Rattle.dist_matrix.specs.Strips.{IsLayout, HasShape, with_strips, strips_of_group};
+ghost use Rattle.block_world.specs.World.{setting_in, state_of, noted_all};
+ghost use Rattle.dist_matrix.specs.Strips.{HasShape, with_strips, strips_of_group};
 ghost use Rattle.run_records.specs.Records.{group_places, strip_places, takes};
-ghost use Rattle.script_run.specs.Layouts.{seen};
-ghost use Rattle.script_run.specs.Noted.{noted_all, MayNote, HoldsMatrix};
+ghost use Rattle.script_lines.specs.Layouts.{IsLayout, seen};
+ghost use Rattle.script_run.specs.Noted.{MayNote, HoldsMatrix};
 
-use crate::layouts::Layout;
 use array_desc::groups;
 use blacs_grid::Scope;
 use block_world::{Mat, Slot, SlotKind, Taken, Tile, World};
 use dist_matrix::place;
+use field_core::F65537;
+use script_lines::Layout;
 use std::alloc::{AllocError, Global};
 
 // Takes the strips of one group, the data ranks row by row, and places them.
 fn take_group(
-    world: &mut World<'_>,
+    world: &mut World<'_, F65537>,
     whole: &mut Mat,
     layout: Layout,
     line: u32,
@@ -51,7 +52,7 @@ fn take_group(
 /// Takes every strip of a matrix, groups by rising number and in each the data ranks row by row, and makes the whole matrix of them.
 pub fn take_matrix(
     alloc: Global,
-    world: &mut World<'_>,
+    world: &mut World<'_, F65537>,
     layout: Layout,
     line: u32,
 ) -> Result<Mat, AllocError>

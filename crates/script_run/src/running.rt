@@ -7,19 +7,20 @@ ghost use Rattle.rank_machine.specs.declared.record.Rec.TheVariants.{Commit};
 ghost use Rattle.rank_machine.specs.Scripts.{grids_from, file_of};
 ghost use Rattle.rank_machine.specs.JournalText.{journal_text};
 ghost use Rattle.serial_model.specs.Text.{matrix_text};
-ghost use Rattle.block_world.specs.World.{state_of};
+ghost use Rattle.block_world.specs.World.{state_of, noted_all};
 ghost use Rattle.run_records.specs.Records.{strip_places, feeds, takes};
 ghost use Rattle.run_records.specs.RunText.{text_said, run_text};
-ghost use Rattle.script_run.specs.Layouts.{makes_matrix, layout_in};
-ghost use Rattle.script_run.specs.Noted.{noted_all, MayNote, HoldsMatrix};
+ghost use Rattle.script_lines.specs.Layouts.{makes_matrix, layout_in};
+ghost use Rattle.script_run.specs.Noted.{MayNote, HoldsMatrix};
 ghost use Rattle.script_run.specs.Runnable.{IsRunnable, IsOf, MayRunLine, printed_on, records_of, script_records};
 
-use crate::layouts::{grids_of, layout_of};
 use crate::lines::{end_line, make_matrix, print_matrix};
 use blacs_grid::Grid;
 use block_world::World;
+use field_core::F65537;
 use journal_text::journal_text;
 use run_data::{Command, Files, Script};
+use script_lines::{grids_of, layout_of};
 use std::alloc::{AllocError, Global};
 
 /// The texts of a run: what it printed, and its journal.
@@ -32,7 +33,7 @@ pub struct Ran {
 // A `matrix` line.
 fn run_matrix(
     alloc: Global,
-    world: &mut World<'_>,
+    world: &mut World<'_, F65537>,
     script: &Script,
     files: &Files,
     grids: &[Grid],
@@ -55,7 +56,7 @@ fn run_matrix(
 // A `print` line.
 fn run_print(
     alloc: Global,
-    world: &mut World<'_>,
+    world: &mut World<'_, F65537>,
     script: &Script,
     grids: &[Grid],
     line: u32,
@@ -80,10 +81,10 @@ fn run_print(
     print_matrix(alloc, world, layout, what, line, name, out)
 }
 
-// A line with a command.
+// A line with a command. `grid`, `links` and `order` lines do nothing: a World opens with all grids, and no command makes a round.
 fn run_line(
     alloc: Global,
-    world: &mut World<'_>,
+    world: &mut World<'_, F65537>,
     script: &Script,
     files: &Files,
     grids: &[Grid],
@@ -103,6 +104,8 @@ fn run_line(
         Command::Matrix { .. } => run_matrix(alloc, world, script, files, grids, line),
         Command::Print { name } => run_print(alloc, world, script, grids, line, name.bytes(), out),
         Command::Discard { .. } => end_line(world, line),
+        Command::Links { .. } => Ok(()),
+        Command::Order { .. } => Ok(()),
         _ => unreachable!(),
     }
 }

@@ -14,12 +14,13 @@ use Rattle.array_desc.specs.Descriptors.{is_between_one_and, desc_of, IsDesc}
 use Rattle.blacs_grid.specs.declared.TheConstants.{MAX_PROCESSES, MAX_CODE_COLUMNS, MAX_RANKS}
 use Rattle.blacs_grid.specs.Limits.{IsGrid}
 use Rattle.run_data.specs.declared.command.Command.{Command}
-use Rattle.run_data.specs.declared.command.Command.TheVariants.{Grid, Matrix, Print, Discard, Pgetrf}
+use Rattle.run_data.specs.declared.command.Command.TheVariants.{Grid, Matrix, Print, Discard, Pgetrf, Links}
 use Rattle.run_data.specs.Script.{Numbered, commands_from, commands_of, command_at, is_name, name_made, name_dropped, maker_after, maker_from, maker, is_grid_line, grids_before, number_of, meant, name_in, operand}
 use Rattle.run_data.proofs.Lines.{said, command_at-before, command_at-commands_from}
 use Rattle.script_text.specs.declared.kinds.Kind.TheVariants.{NewName, GridName, MatrixName, ThingName, FileName}
 use Rattle.script_text.specs.declared.layouts.Layout.{Layout}
-use Rattle.script_text.specs.Rules.{live_matrices, matrix_lines, first_code, command_on, maker_command, is_matrix_line, is_list_line, process_rows, process_columns, layout_on, layout_made, layout_of, factored_made, factored, ranks_of, ranks_made, word_rules, grid_rules, matrix_rules, rules}
+use Rattle.script_text.specs.Rules.{live_matrices, matrix_lines, first_code, command_on, maker_command, is_matrix_line, is_list_line, process_rows, process_columns, layout_on, layout_made, layout_of, factored_made, factored, ranks_of, ranks_made, word_rules, grid_rules, matrix_rules, link_lines, links_rules, rules}
+use Rattle.script_text.specs.declared.rules.TheConstants.{MAX_LINKS}
 use Rattle.script_text.specs.Told.{told_without_losses}
 use Rattle.script_text.specs.Steps.{IsInRange}
 use Rattle.script_text.specs.Runs.{can_run, first_unrunnable}
@@ -218,6 +219,12 @@ pub limits_of_grid : (script : List (Option Command)) (line : ℕ) (name : List 
 limits_of_grid script line name p q f h e =
     let on = OnLine-from_command_at script line (Grid name p q f) e in
     (grid_limits (ranks_of (commands_of (take on.place script))) p q f (kept_on script on.place (Grid name p q f) h on.said).own).0
+
+-- a link holds 1 to 64 messages
+pub links_kept : (script : List (Option Command)) (line n : ℕ) → KeepsRules script → command_at (commands_of script) line ≡ Some (Links n) → (1 ≤ n) × (n ≤ MAX_LINKS)
+links_kept script line n h e =
+    let on = OnLine-from_command_at script line (Links n) e in
+    between MAX_LINKS n (all_kept (links_rules (link_lines (commands_of (take on.place script))) n) (kept_on script on.place (Links n) h on.said).own).0
 
 -- the command that a name means stands on a line
 made_on : (cs : List Numbered) (line : ℕ) (name : List ℕ) (c : Command) → maker_command cs line name ≡ Some c → (at : ℕ) × (command_at cs at ≡ Some c)

@@ -10,6 +10,8 @@ can_run (c.Grid name p q f) = f == 0
 can_run (c.Matrix name grid m n mb nb rsrc csrc file) = true
 can_run (c.Print name) = true
 can_run (c.Discard name) = true
+can_run (c.Links n) = true
+can_run (c.Order numbers) = true
 can_run _ = false
 
 -- the first line that they can't run

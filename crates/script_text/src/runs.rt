@@ -13,12 +13,14 @@ fn can_run(command: &Command) -> bool
         Command::Matrix { .. } => true,
         Command::Print { .. } => true,
         Command::Discard { .. } => true,
+        Command::Links { .. } => true,
+        Command::Order { .. } => true,
         _ => false,
     }
 }
 
-/// The first line, counted from 1, that the ranks can't run so far: they run `grid` lines without code columns, `matrix`, `print` and
-/// `drop`.
+/// The first line, counted from 1, that the ranks can't run so far: they run `grid` lines without code columns, `matrix`, `print`, `drop`,
+/// `links` and `order`.
 pub fn first_unrunnable(script: &Script) -> Option<u32>
     ensures { result ≡ first_unrunnable (commands_of script.now) }
 {

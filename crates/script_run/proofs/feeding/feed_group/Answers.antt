@@ -9,7 +9,7 @@ use Rattle.rank_machine.specs.CodeLaw.{slot_at}
 use Rattle.rank_machine.specs.Legal.{IsLegalRec}
 use Rattle.block_world.specs.World.{setting_in, state_of, noted}
 use Rattle.run_records.specs.Records.{feeds}
-use Rattle.script_run.specs.Layouts.{seen}
+use Rattle.script_lines.specs.Layouts.{seen}
 use Rattle.script_run.proofs.Noting.{turn-legal, turn-rest, turn-ends}
 use Rattle.script_run.proofs.Placed.{fed-is}
 use Rattle.script_run.proofs.feeding.feed_group.Goals as goal

@@ -4,10 +4,10 @@ use Rattle.blacs_grid.specs.declared.Scope.TheVariants.{All}
 use Rattle.blacs_grid.specs.Places.{member}
 use Rattle.rank_machine.specs.declared.slot.SlotKind.TheVariants.{Data}
 use Rattle.rank_machine.specs.CodeLaw.{slot_at}
-use Rattle.block_world.specs.World.{setting_in}
+use Rattle.block_world.specs.World.{setting_in, noted_all}
 use Rattle.run_records.specs.Records.{group_places, feeds}
-use Rattle.script_run.specs.Layouts.{seen}
-use Rattle.script_run.specs.Noted.{noted_all, MayNote}
+use Rattle.script_lines.specs.Layouts.{seen}
+use Rattle.script_run.specs.Noted.{MayNote}
 use Rattle.script_run.proofs.feeding.feed_group.Given as goal
 
 abbrev pub invariant-loop-i : goal.invariant-loop-i

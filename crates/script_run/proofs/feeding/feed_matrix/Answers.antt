@@ -3,7 +3,7 @@ use Rattle.std.specs.List.{flat_map}
 use Rattle.rank_machine.specs.declared.record.Rec.{Rec}
 use Rattle.block_world.specs.World.{setting_in}
 use Rattle.run_records.specs.Records.{group_places, feeds}
-use Rattle.script_run.specs.Layouts.{seen}
+use Rattle.script_lines.specs.Layouts.{seen}
 use Rattle.script_run.proofs.Noting.{turns-legal, turns-rest, turns-ends, setting-noted_all}
 use Rattle.script_run.proofs.Placed.{feeds-append}
 use Rattle.script_run.proofs.feeding.feed_matrix.Goals as goal

@@ -1,9 +1,9 @@
 use Rattle.std.proofs.Common.{◌≡◌, ◌-◌}
 use Rattle.std.specs.List.{flat_map, range_with_len}
-use Rattle.block_world.specs.World.{setting_in}
+use Rattle.block_world.specs.World.{setting_in, noted_all}
 use Rattle.run_records.specs.Records.{group_places, strip_places, feeds}
-use Rattle.script_run.specs.Layouts.{seen}
-use Rattle.script_run.specs.Noted.{noted_all, MayNote}
+use Rattle.script_lines.specs.Layouts.{seen}
+use Rattle.script_run.specs.Noted.{MayNote}
 use Rattle.script_run.proofs.feeding.feed_matrix.Given as goal
 
 abbrev pub invariant-loop-group : goal.invariant-loop-group

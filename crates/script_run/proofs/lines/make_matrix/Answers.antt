@@ -1,10 +1,11 @@
 use Rattle.std.proofs.Common.{◌∷◌, [], false, subst, sym}
+use Rattle.std.proofs.lemmas.Result.{on_ok_weaker}
 use Rattle.rank_machine.specs.State.{end_mark}
 use Rattle.rank_machine.specs.declared.record.Rec.TheVariants.{Commit}
 use Rattle.run_records.specs.Records.{strip_places, feeds}
-use Rattle.script_run.specs.Layouts.{seen}
+use Rattle.script_lines.specs.Layouts.{seen}
 use Rattle.script_run.specs.Noted.{MayNote}
-use Rattle.script_run.proofs.Noting.{front-legal, back-legal, on_ok, then-noted}
+use Rattle.script_run.proofs.Noting.{front-legal, back-legal, then-noted}
 use Rattle.script_run.proofs.lines.make_matrix.Goals as goal
 
 pub feed_matrix-requires-clause-legal : goal.feed_matrix-requires-clause-legal
@@ -16,5 +17,6 @@ end_line-requires c =
     (back-legal c.args.world.now (feeds (strip_places c.args.line (seen c.args.layout))) (Commit (end_mark c.args.line) false ∷ []) c.requires.legal)
 
 pub returns : goal.returns
-returns c = on_ok c.end_line.result _ _ c.end_line.ensures
+returns c = on_ok_weaker c.end_line.result
     (λ e. then-noted c.args.world.now c.feed_matrix.new.world c.end_line.new.world (feeds (strip_places c.args.line (seen c.args.layout))) (Commit (end_mark c.args.line) false ∷ []) c.in_ok-feed_matrix.ensures e)
+    c.end_line.ensures

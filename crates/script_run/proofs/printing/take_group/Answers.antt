@@ -10,7 +10,7 @@ use Rattle.rank_machine.specs.Legal.{IsLegalRec}
 use Rattle.block_world.specs.World.{setting_in, state_of, noted}
 use Rattle.dist_matrix.specs.Strips.{with_strip}
 use Rattle.run_records.specs.Records.{takes}
-use Rattle.script_run.specs.Layouts.{seen}
+use Rattle.script_lines.specs.Layouts.{seen}
 use Rattle.script_run.proofs.Noting.{turn-legal, turn-rest, turn-ends}
 use Rattle.script_run.proofs.Placed.{tiles-take, cut-is, strip-shape, placed-next}
 use Rattle.script_run.proofs.printing.take_group.Goals as goal

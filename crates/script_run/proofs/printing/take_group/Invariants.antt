@@ -5,11 +5,11 @@ use Rattle.blacs_grid.specs.Places.{member}
 use Rattle.rank_machine.specs.declared.slot.Slot.{Slot}
 use Rattle.rank_machine.specs.declared.slot.SlotKind.TheVariants.{Data}
 use Rattle.rank_machine.specs.CodeLaw.{slot_at}
-use Rattle.block_world.specs.World.{setting_in, state_of}
+use Rattle.block_world.specs.World.{setting_in, state_of, noted_all}
 use Rattle.dist_matrix.specs.Strips.{HasShape, with_strips, strips_of_group}
 use Rattle.run_records.specs.Records.{group_places, takes}
-use Rattle.script_run.specs.Layouts.{seen}
-use Rattle.script_run.specs.Noted.{noted_all, MayNote}
+use Rattle.script_lines.specs.Layouts.{seen}
+use Rattle.script_run.specs.Noted.{MayNote}
 use Rattle.script_run.proofs.printing.take_group.Given as goal
 
 abbrev pub invariant-loop-i : goal.invariant-loop-i

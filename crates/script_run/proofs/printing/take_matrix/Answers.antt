@@ -6,12 +6,12 @@ use Rattle.rank_machine.specs.declared.slot.Tile.TheVariants.{Words}
 use Rattle.rank_machine.specs.declared.record.Rec.{Rec}
 use Rattle.rank_machine.specs.Setting.{group_count, strip_of}
 use Rattle.rank_machine.specs.CodeLaw.{slot_at}
-use Rattle.block_world.specs.World.{setting_in, state_of}
+use Rattle.block_world.specs.World.{setting_in, state_of, noted_all}
 use Rattle.dist_matrix.specs.Strips.{HasShape, with_strips, strips_of_group}
 use Rattle.dist_matrix.proofs.StripLaws.{with_strips-all, HasShape-with_strips}
 use Rattle.run_records.specs.Records.{group_places, takes}
-use Rattle.script_run.specs.Layouts.{seen}
-use Rattle.script_run.specs.Noted.{noted_all, MayNote}
+use Rattle.script_lines.specs.Layouts.{seen}
+use Rattle.script_run.specs.Noted.{MayNote}
 use Rattle.script_run.proofs.Noting.{turns-legal, turns-rest, turns-ends, none-left, setting-noted_all}
 use Rattle.script_run.proofs.Placed.{takes-append, tiles-takes, groups-next, shaped-zeros, has_shape-zeros}
 use Rattle.script_run.proofs.printing.take_matrix.Goals as goal

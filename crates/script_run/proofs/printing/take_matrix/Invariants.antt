@@ -2,11 +2,11 @@ use Rattle.std.proofs.Common.{◌≡◌, ◌-◌, ℕ}
 use Rattle.std.specs.List.{flat_map, range_with_len}
 use Rattle.rank_machine.specs.declared.slot.Slot.{Slot}
 use Rattle.run_data.specs.Matrix.{zero_matrix}
-use Rattle.block_world.specs.World.{setting_in, state_of}
+use Rattle.block_world.specs.World.{setting_in, state_of, noted_all}
 use Rattle.dist_matrix.specs.Strips.{HasShape, with_strips, strips_of_group, all_strips}
 use Rattle.run_records.specs.Records.{group_places, strip_places, takes}
-use Rattle.script_run.specs.Layouts.{seen}
-use Rattle.script_run.specs.Noted.{noted_all, MayNote}
+use Rattle.script_lines.specs.Layouts.{seen}
+use Rattle.script_run.specs.Noted.{MayNote}
 use Rattle.script_run.proofs.printing.take_matrix.Given as goal
 
 abbrev pub invariant-loop-group : goal.invariant-loop-group

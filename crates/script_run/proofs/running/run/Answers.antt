@@ -1,7 +1,8 @@
 use Rattle.std.proofs.Common.{◌≡◌, suc, ◌+◌, ◌<◌, ℕ, List, length, drop, subst, sym, ap, ◌∙◌}
 use Rattle.run_data.specs.Script.{Numbered, commands_from}
 use Rattle.block_world.specs.World.{WorldView}
-use Rattle.script_run.proofs.Underway.{Underway, may_run, after_line, underway-first, left-some, left-none}
+use Rattle.run_data.proofs.Lines.{left-some, left-none}
+use Rattle.script_run.proofs.Underway.{Underway, may_run, after_line, underway-first}
 use Rattle.script_run.proofs.running.run.Goals as goal
 use Rattle.script_run.proofs.running.run.Goals.{in-Some+in_ok-run_line, in_default}
 

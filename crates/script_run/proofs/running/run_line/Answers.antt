@@ -1,11 +1,12 @@
 use Rattle.std.proofs.Common.{Some, subst, sym, ap, ◌∙◌}
+use Rattle.std.proofs.lemmas.Result.{on_ok_weaker}
 use Rattle.rank_machine.specs.declared.slot.Tile.TheVariants.{Words}
 use Rattle.rank_machine.specs.Scripts.{file_of}
 use Rattle.rank_machine.specs.Setting.{strip_of}
-use Rattle.script_run.specs.Layouts.{layout_in}
-use Rattle.script_run.specs.Noted.{noted_all, MayNote}
+use Rattle.script_lines.specs.Layouts.{layout_in}
+use Rattle.block_world.specs.World.{noted_all}
+use Rattle.script_run.specs.Noted.{MayNote}
 use Rattle.script_run.specs.Runnable.{printed_on, records_of}
-use Rattle.script_run.proofs.Noting.{on_ok}
 use Rattle.script_run.proofs.Underway.{print-records}
 use Rattle.script_run.proofs.running.run_line.Goals as goal
 
@@ -27,4 +28,4 @@ pub returns-in-Print-clause-noted : goal.returns-in-Print-clause-noted
 returns-in-Print-clause-noted c =
     let f = c.in-Print in
     let same = ap (records_of c.args.script.now c.args.files.now c.args.line) f.is ∙ print-records c.args.script.now c.args.files.now c.args.line f.name (c.requires.may.prints f.name f.is) in
-    on_ok c.run_print.result _ _ c.run_print.ensures.noted (λ e. e ∙ ap (noted_all c.args.world.now) (sym same))
+    on_ok_weaker c.run_print.result (λ e. e ∙ ap (noted_all c.args.world.now) (sym same)) c.run_print.ensures.noted

@@ -1,0 +1,63 @@
+-- An accepted script and its files are what a run on ranks asks for.
+use Rattle.std.proofs.Common.{◌≡◌, ◌<◌, ◌≤◌, ℕ, true, List, [], ◌∷◌, Option, Some, None, refl, sym, ap, subst, ◌∙◌, arith}
+use Rattle.std.specs.Prelude.{All}
+use Rattle.std.proofs.lemmas.Bool.{false≢true}
+use Rattle.std.proofs.lemmas.List.Elements.{All-nil}
+use Rattle.run_data.specs.Matrix.{AreWords}
+use Rattle.run_data.specs.declared.command.Command.{Command}
+use Rattle.run_data.specs.declared.command.Command.TheVariants as c
+use Rattle.run_data.specs.Script.{Numbered, commands_of, command_at}
+use Rattle.rank_machine.specs.Setting.{Setting, Job, job, layout, is_matrix}
+use Rattle.rank_machine.specs.Scripts.{Matrices, capacity_after, capacity_from, grids_from, setting_of, file_of}
+use Rattle.script_lines.specs.Layouts.{IsLayout}
+use Rattle.script_lines.specs.Sound.{IsSound}
+use Rattle.script_text.specs.Accepted.{IsAccepted, KeepsRules}
+use Rattle.script_text.specs.Runs.{first_unrunnable}
+use Rattle.script_text.proofs.Limits.{links_kept, run_kept}
+use Rattle.script_lines.proofs.JobAt.{job_for, job-in_script}
+use Rattle.script_run.proofs.AcceptedCommands.{AreThere, there-all, there-first, there-later}
+use Rattle.script_run.proofs.AcceptedGrids.{accepted-grids}
+use Rattle.script_run.proofs.AcceptedMatrices.{laid_out}
+
+-- how many messages a link may hold
+abbrev IsCapacity : ℕ → Type 0
+IsCapacity n = (1 ≤ n) × (n ≤ 64)
+
+capacity_next : (script : List (Option Command)) (line : ℕ) (command : Command) (before : ℕ) → KeepsRules script → command_at (commands_of script) line ≡ Some command → IsCapacity before → IsCapacity (capacity_after command before)
+capacity_next script line (c.Links n) before h e within = links_kept script line n h e
+capacity_next script line command before h e within = within
+
+capacity_within : (script : List (Option Command)) (more : List Numbered) (before : ℕ) → KeepsRules script → AreThere (commands_of script) more → IsCapacity before → IsCapacity (capacity_from before more)
+capacity_within script [] before h all within = within
+capacity_within script (n ∷ more) before h all within =
+    capacity_within script more (capacity_after n.command before) h (there-later (commands_of script) more n all)
+    (capacity_next script n.line n.command before h (there-first (commands_of script) more n all) within)
+
+-- no line that the ranks can run multiplies by a factor of its own
+no_scalars : (script : List (Option Command)) (files : Matrices) (line : ℕ) → first_unrunnable (commands_of script) ≡ None → (job (setting_of script files) line).scalars ≡ []
+no_scalars script files line runs =
+    ap (λ (j : Job). j.scalars) (job-in_script script line) ∙ by_command (command_at (commands_of script) line) refl
+  where
+    by_command : (o : Option Command) → command_at (commands_of script) line ≡ o → (job_for (commands_of script) (grids_from 0 (commands_of script)) line o).scalars ≡ []
+    by_command (Some (c.Pgemm transa transb m n k alpha a ia ja b ib jb beta x ic jc)) e =
+        absurd (false≢true (run_kept script line (c.Pgemm transa transb m n k alpha a ia ja b ib jb beta x ic jc) runs e))
+    by_command (Some (c.Ptrsm side uplo transa diag m n alpha a ia ja b ib jb)) e =
+        absurd (false≢true (run_kept script line (c.Ptrsm side uplo transa diag m n alpha a ia ja b ib jb) runs e))
+    by_command (Some command) e = refl
+    by_command None e = refl
+
+pub accepted-sound : (script : List (Option Command)) (files : Matrices) → IsAccepted script → first_unrunnable (commands_of script) ≡ None
+    → ((line : ℕ) → is_matrix (setting_of script files) line ≡ true → AreWords 65537 (file_of files line))
+    → IsSound 65537 (setting_of script files)
+accepted-sound script files accepted runs words =
+    let s : Setting = setting_of script files in
+    let capacity : IsCapacity s.capacity = capacity_within script (commands_of script) 1 accepted.lines (there-all script) (omega arith, omega arith) in
+    record {
+      modulus = refl;
+      grids = accepted-grids script files accepted;
+      layouts = λ line made. let laid = laid_out script files accepted.lines runs line made in record { grid = laid.grid; desc = laid.desc };
+      files = words;
+      scalars = λ line. subst (λ (l : List ℕ). All (λ a. a < 65537) l) (sym (no_scalars script files line runs)) (All-nil (λ a. a < 65537));
+      some_messages = capacity.0;
+      messages = capacity.1;
+    }
