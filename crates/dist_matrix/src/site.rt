@@ -153,6 +153,7 @@ impl<'a> Site<'a> {
 
 // The descriptor of the matrix that a line makes.
 fn shape_in(table: &[Line], line: u32) -> Option<Desc>
+    requires { AreSound table.now }
     ensures { result ≡ shape_of (setting_on 0 table.now) line }
 {
     match find(table, line).makes {
@@ -190,6 +191,7 @@ fn list_in(table: &[Line], mark: Mark, line: u32) -> Option<ListShape>
 
 // The line of the matrix that is being factored, and the line that factors it.
 fn factoring_in(table: &[Line], mark: Mark) -> Option<(u32, u32)>
+    requires { AreSound table.now }
     ensures { result ≡ factoring_under (setting_on 0 table.now) mark }
 {
     let matrix = factoring(table, mark);

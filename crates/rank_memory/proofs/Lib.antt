@@ -1,5 +1,4 @@
 pub mod Changes
 pub mod Examples
 pub mod RowLaws
-pub mod TableLaws
 pub mod TakenOut

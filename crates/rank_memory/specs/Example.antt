@@ -1,5 +1,5 @@
 -- The rank of the tests.
-use Rattle.std.specs.Prelude.{ℕ, true, Some, List, [], ◌∷◌}
+use Rattle.std.specs.Prelude.{ℕ, true, Some, None, List, [], ◌∷◌}
 use Rattle.run_data.specs.Matrix.{Matrix, with_entry, zero_matrix}
 use Rattle.array_desc.specs.Descriptors.{desc_of}
 use Rattle.rank_machine.specs.declared.slot.SlotKind.TheVariants.{Data, Pivots, Work}
@@ -14,7 +14,7 @@ abbrev pub layout : Layout
 layout = record { grid = record { p = 2; q = 1; f = 1; first = 0 }; desc = desc_of 0 2 1 5 2 2 2 1 0 }
 
 abbrev pub table : List Line
-table = record { line = 3; makes = Some layout; factors = 0; drops = 0 } ∷ []
+table = record { line = 3; makes = Some layout; factors = 0; drops = 0; dropped = None } ∷ []
 
 abbrev pub data_slot : Slot
 data_slot = record { kind = Data; id = 3; group = 0 }

@@ -1,16 +1,15 @@
 //! The kernels that may make their slot.
 ghost use Rattle.std.specs.Prelude.{◌≡◌, ◌+◌, ◌∷◌, [], true, min, nat_lt, Some, IsTrue, IfOk};
 ghost use Rattle.rank_machine.specs.declared.slot.Tile.TheVariants.{Index};
-ghost use Rattle.rank_machine.specs.Setting.{layout, is_matrix};
+ghost use Rattle.rank_machine.specs.Setting.{layout};
 ghost use Rattle.rank_machine.specs.Effect.{words_of, is_words, slot_of, target, matrix_in, area_in, piece_in, made_by, number_of, first_row, least_of, number_if, is_zero_here, diagonal};
 ghost use Rattle.rank_machine.specs.Legal.{makes, holds, holds_words, in_matrix, breadth, is_number};
-ghost use Rattle.rank_memory.specs.Places.{layout_of, IsSound};
 ghost use Rattle.script_lines.specs.Lines.{setting_on, AreSound};
 ghost use Rattle.rank_slots.specs.Cells.{tiles_in};
 ghost use Rattle.rank_slots.specs.Rank.{IsFit};
 
 use crate::pieces::{area_of, cut_out, zero_tile};
-use crate::placed::{Placed, find};
+use crate::placed::located;
 use crate::search::{first_row, first_zero};
 use field_core::Field;
 use rank_machine::{Kernel, Piece, Slot, Tile};
@@ -50,20 +49,6 @@ pub fn may_make(kernel: &Kernel) -> bool
         Kernel::First(_, _, _, _) => true,
         Kernel::Diag(_, _, _) => true,
         _ => false,
-    }
-}
-
-/// Where the matrix of a line lies, which makes one.
-pub fn located(table: &[Line], line: u32) -> Placed
-    requires sound { AreSound table.now }
-    requires matrix { IsTrue (is_matrix (setting_on 0 table.now) line) }
-    ensures line { result.line ≡ line }
-    ensures sound { IsSound result }
-    ensures layout { layout (setting_on 0 table.now) line ≡ layout_of result }
-{
-    match find(table, line) {
-        Some(placed) => placed,
-        None => unreachable!(),
     }
 }
 

@@ -1,13 +1,14 @@
 //! Where the matrices of a script lie.
-ghost use Rattle.std.specs.Prelude.{◌≡◌, ℕ, ◌≤◌, ◌<◌, option_map, IsTrue};
+ghost use Rattle.std.specs.Prelude.{◌≡◌, ℕ, ◌≤◌, ◌<◌, IsTrue};
 ghost use Rattle.array_desc.specs.Maps.{global};
 ghost use Rattle.blacs_grid.specs.Places.{is_member};
-ghost use Rattle.rank_machine.specs.Setting.{global_row};
-ghost use Rattle.rank_memory.specs.Places.{layout_of, placed_on, IsSound, find_placed};
+ghost use Rattle.rank_machine.specs.Setting.{layout, global_row};
+ghost use Rattle.script_lines.specs.Lines.{setting_on, AreSound};
+ghost use Rattle.rank_memory.specs.Places.{layout_of, IsSound};
 
 use array_desc::Desc;
 use blacs_grid::Grid;
-use script_lines::Line;
+use script_lines::{Line, layout_at};
 
 /// The grid and the descriptor of the matrix that a line makes.
 #[derive(Clone, Copy)]
@@ -17,30 +18,19 @@ pub struct Placed {
     pub desc: Desc,
 }
 
-// Where the matrix of a line lies, if the line makes one.
-fn placed_on(entry: &Line) -> Option<Placed>
-    ensures { result ≡ option_map (placed_on entry.now.line) entry.now.makes }
+/// Where the matrix of a line lies.
+pub fn located(table: &[Line], line: u32) -> Placed
+    requires sound { AreSound table.now }
+    ensures line { result.line ≡ line }
+    ensures sound { IsSound result }
+    ensures layout { layout (setting_on 0 table.now) line ≡ layout_of result }
 {
-    match entry.makes {
-        Some(at) => Some(Placed {
-            line: entry.line,
-            grid: at.grid,
-            desc: at.desc,
-        }),
-        None => None,
+    let at = layout_at(table, line);
+    Placed {
+        line,
+        grid: at.grid,
+        desc: at.desc,
     }
-}
-
-/// Where the matrix of a line lies, if the line makes one.
-pub fn find(table: &[Line], line: u32) -> Option<Placed>
-    ensures { result ≡ find_placed table.now line }
-{
-    for entry in table {
-        if entry.line == line {
-            return placed_on(entry);
-        }
-    }
-    None
 }
 
 /// The global row of a local row on a process row.

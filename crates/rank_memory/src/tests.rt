@@ -196,6 +196,7 @@ fn square(rt: &impl Abort, alloc: Global) -> Result<Mat, AllocError>
 }
 
 // A rank that holds the strip, the square, a list of pivots, two numbers and the number that means none.
+#[tactic(auto, using(script_lines::proofs::Lookups::one_sound))]
 fn rank(rt: &impl Abort, alloc: Global) -> Result<RankMem<F65537>, AllocError>
     ensures { IfOk result (λ m. m ≡ example.example) }
 {
@@ -204,6 +205,7 @@ fn rank(rt: &impl Abort, alloc: Global) -> Result<RankMem<F65537>, AllocError>
         makes: Some(layout(rt)),
         factors: 0,
         drops: 0,
+        dropped: None,
     }];
     let mut mem = RankMem::new(alloc, &table, 2)?;
     mem.put(STRIP, Tile::Words(strip(rt, alloc)?))?;

@@ -11,8 +11,8 @@ ghost use Rattle.script_lines.specs.Lines.{setting_on, AreSound};
 ghost use Rattle.rank_slots.specs.Shapes.{from_corner, has_nonzero_diagonal};
 
 use crate::kernels::{add_triangle, eliminate_below};
-use crate::made::located;
 use crate::pieces::{area_of, put_copy};
+use crate::placed::located;
 use field_core::Field;
 use local_blas::{add_scaled, mul_add, scale, solve_lower, solve_upper};
 use rank_machine::{Cut, Piece, Slot};

@@ -1,4 +1,5 @@
 pub mod JobAt
 pub mod Left
+pub mod Lookups
 mod Tables
 pub mod TableLaws

@@ -12,7 +12,7 @@ use Rattle.rank_machine.specs.Effect.{has_ended, is_dropped, is_live_matrix, is_
 use Rattle.script_lines.specs.declared.layouts.Layout as script
 use Rattle.script_lines.specs.declared.lines.Line.{Line}
 use Rattle.script_lines.specs.Layouts.{IsLayout, seen}
-use Rattle.script_lines.specs.Lines.{job_seen, of_slots, setting_on, IsTableOf, AreSound}
+use Rattle.script_lines.specs.Lines.{job_seen, of_slots, setting_on, IsTableOf, AreLaidOut, AreSound}
 
 -- ---- what is read of a list of jobs is what they make, factor and drop
 chosen : (here : Bool) (j after : Job) (x : Job) → x ≡ of_slots after → (if here then of_slots j else x) ≡ of_slots (if here then j else after)
@@ -75,11 +75,14 @@ one_of_two : (here : Bool) (j after : Job) → IfSome j.makes IsLayout → IfSom
 one_of_two true j after h k = h
 one_of_two false j after h k = k
 
-pub makes_sound : (table : List Line) (line : ℕ) → AreSound table → IfSome (job_in (map job_seen table) line).makes IsLayout
-makes_sound [] line sound = tt
-makes_sound (x ∷ xs) line sound =
+makes_laid_out : (table : List Line) (line : ℕ) → AreLaidOut table → IfSome (job_in (map job_seen table) line).makes IsLayout
+makes_laid_out [] line h = tt
+makes_laid_out (x ∷ xs) line h =
     let P : Line → Type 0 = λ y. IfSome y.makes (λ d. IsLayout (seen d)) in
-    one_of_two (x.line == line) (job_seen x) (job_in (map job_seen xs) line) (seen_sound x.makes (All-head P x xs sound)) (makes_sound xs line (All-tail P x xs sound))
+    one_of_two (x.line == line) (job_seen x) (job_in (map job_seen xs) line) (seen_sound x.makes (All-head P x xs h)) (makes_laid_out xs line (All-tail P x xs h))
+
+pub makes_sound : (table : List Line) (line : ℕ) → AreSound table → IfSome (job_in (map job_seen table) line).makes IsLayout
+makes_sound table line sound = makes_laid_out table line sound.laid_out
 
 -- the layout of a line that makes no matrix
 no_layout_sound : IsLayout no_layout

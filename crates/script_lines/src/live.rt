@@ -5,7 +5,7 @@ ghost use Rattle.blacs_grid.specs.Places.{is_member, is_data_rank, is_code_rank}
 ghost use Rattle.rank_machine.specs.Setting as machine;
 ghost use Rattle.rank_machine.specs.Effect as effect;
 ghost use Rattle.script_lines.specs.Layouts.{IsLayout, seen};
-ghost use Rattle.script_lines.specs.Lines.{job_seen, setting_on, AreSound};
+ghost use Rattle.script_lines.specs.Lines.{job_seen, setting_on, line_in, is_dropped_by, AreSound};
 
 use crate::layouts::Layout;
 use crate::lines::Line;
@@ -13,20 +13,22 @@ use array_desc::{Desc, groups};
 use blacs_grid::Grid;
 use rank_machine::{Mark, Slot, SlotKind};
 
-/// What a line asks; a line that isn't in the table asks nothing.
+/// What a line asks; a line that isn't in the table asks nothing. It is found by halving.
 pub fn find(table: &[Line], line: u32) -> Line
-    ensures { job_seen result ≡ machine.job_in (map job_seen table.now) line }
+    requires sound { AreSound table.now }
+    ensures line { result ≡ line_in table.now line }
+    ensures job { job_seen result ≡ machine.job_in (map job_seen table.now) line }
 {
-    for asked in table {
-        if asked.line == line {
-            return *asked;
-        }
+    let at = table.partition_point(|asked| asked.line < line);
+    if at < table.len() && table[at].line == line {
+        return table[at];
     }
     Line {
         line,
         makes: None,
         factors: 0,
         drops: 0,
+        dropped: None,
     }
 }
 
@@ -83,33 +85,38 @@ fn is_code_rank(grid: &Grid, rank: u32) -> bool
 }
 
 // Whether what a line made has been dropped under a mark.
-fn is_dropped(table: &[Line], mark: Mark, what: u32) -> bool
-    ensures { result ≡ effect.is_dropped (setting_on 0 table.now) mark what }
+fn is_dropped(asked: &Line, mark: Mark) -> bool
+    ensures { result ≡ is_dropped_by mark asked.now.dropped }
 {
-    for asked in table {
-        if mark.has_ended(asked.line) && asked.drops == what {
-            return true;
-        }
+    match asked.dropped {
+        Some(line) => mark.has_ended(line),
+        None => false,
     }
-    false
 }
 
 /// Whether a line made a matrix that is there under a mark.
+#[tactic(auto, using(crate::proofs::Lookups::matrix_unless_dropped))]
 pub fn is_live_matrix(table: &[Line], mark: Mark, line: u32) -> bool
+    requires sound { AreSound table.now }
     ensures { result ≡ effect.is_live_matrix (setting_on 0 table.now) mark line }
 {
-    find(table, line).makes.is_some() && mark.has_ended(line) && !is_dropped(table, mark, line)
+    let asked = find(table, line);
+    asked.makes.is_some() && mark.has_ended(line) && !is_dropped(&asked, mark)
 }
 
 /// Whether a line made a list of pivots that is there under a mark.
+#[tactic(auto, using(crate::proofs::Lookups::list_unless_dropped))]
 pub fn is_live_list(table: &[Line], mark: Mark, line: u32) -> bool
+    requires sound { AreSound table.now }
     ensures { result ≡ effect.is_live_list (setting_on 0 table.now) mark line }
 {
-    0 < find(table, line).factors && line <= mark.line && !is_dropped(table, mark, line)
+    let asked = find(table, line);
+    0 < asked.factors && line <= mark.line && !is_dropped(&asked, mark)
 }
 
 /// The line of the matrix that is being factored under a mark, or 0.
 pub fn factoring(table: &[Line], mark: Mark) -> u32
+    requires sound { AreSound table.now }
     ensures { result ≡ effect.factoring (setting_on 0 table.now) mark }
 {
     if mark.ended {
@@ -121,6 +128,7 @@ pub fn factoring(table: &[Line], mark: Mark) -> u32
 
 // Whether a line made the matrix that is being factored under a mark.
 fn is_factored(table: &[Line], mark: Mark, line: u32) -> bool
+    requires sound { AreSound table.now }
     ensures { result ≡ (nat_lt 0 line && (effect.factoring (setting_on 0 table.now) mark == line)) }
 {
     0 < line && factoring(table, mark) == line

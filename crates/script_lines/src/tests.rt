@@ -140,13 +140,13 @@ fn places_grids_and_matrices(rt: HostRuntime) -> Result<(), Fail> {
 fn lists_lines_that_make_records(rt: HostRuntime) -> Result<(), Fail> {
     let script = script_of(rt.alloc())?;
     let table = lines_of(rt.alloc(), &script)?;
-    // the line, the rows of the matrix that it makes or 0, what it factors, and what it drops
+    // the line, the rows of the matrix that it makes or 0, what it factors, what it drops, and by what it is dropped
     let expected = [
-        (3, 4, 0, 0),
-        (5, 0, 3, 0),
-        (6, 5, 0, 0),
-        (7, 0, 0, 3),
-        (8, 0, 0, 5),
+        (3, 4, 0, 0, Some(7)),
+        (5, 0, 3, 0, Some(8)),
+        (6, 5, 0, 0, None),
+        (7, 0, 0, 3, None),
+        (8, 0, 0, 5, None),
     ];
     assert_eq!(rt; table.len(), expected.len());
     for (asked, expected) in table.iter().zip(&expected) {
@@ -154,7 +154,10 @@ fn lists_lines_that_make_records(rt: HostRuntime) -> Result<(), Fail> {
             Some(layout) => layout.desc.m,
             None => 0,
         };
-        assert_eq!(rt; (asked.line, rows, asked.factors, asked.drops), *expected);
+        assert_eq!(rt;
+            (asked.line, rows, asked.factors, asked.drops, asked.dropped),
+            *expected
+        );
     }
     Ok(())
 }

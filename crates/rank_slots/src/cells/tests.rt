@@ -1,6 +1,6 @@
 //! Slots that are put in any order, saved, taken out, kept and counted.
-ghost use Rattle.std.specs.Prelude.{IfSome};
-ghost use Rattle.script_lines.specs.Layouts.{seen, IsLayout};
+ghost use Rattle.std.specs.Prelude.{◌∷◌, []};
+ghost use Rattle.script_lines.specs.Lines.{AreSound};
 
 use super::*;
 use array_desc::Desc;
@@ -125,8 +125,9 @@ fn what_was_saved_stays(rt: HostRuntime) -> Result<(), Fail> {
 }
 
 // Line 1 makes a matrix of 2 by 2 words in single words, on one data column and a code column from rank 0 on.
+#[tactic(auto, using(script_lines::proofs::Lookups::one_sound))]
 fn matrix_line(rt: &impl Abort) -> Line
-    ensures { IfSome result.makes (λ d. IsLayout (seen d)) }
+    ensures { AreSound (result ∷ []) }
 {
     match Grid::new(1, 1, 1, 0) {
         Ok(grid) => match Desc::new(0, 1, 1, 2, 2, 1, 1, 0, 0) {
@@ -135,6 +136,7 @@ fn matrix_line(rt: &impl Abort) -> Line
                 makes: Some(Layout { grid, desc }),
                 factors: 0,
                 drops: 0,
+                dropped: None,
             },
             Err(_) => panic!(rt; "no descriptor"),
         },

@@ -8,6 +8,6 @@ use Rattle.script_lines.proofs.live.layout_at.Goals as goal
 
 pub returns-in-Some-clause-sound : goal.returns-in-Some-clause-sound
 returns-in-Some-clause-sound c =
-    let is : machine.job_in (map job_seen c.args.table.now) c.args.line ≡ job_seen c.find.result = sym c.find.ensures in
+    let is : machine.job_in (map job_seen c.args.table.now) c.args.line ≡ job_seen c.find.result = sym c.find.ensures.job in
     let made : (machine.job_in (map job_seen c.args.table.now) c.args.line).makes ≡ Some (seen c.in-Some.layout) = ap (λ (j : machine.Job). j.makes) is ∙ ap (option_map seen) c.in-Some.is in
     subst (λ (o : Option machine.Layout). IfSome o IsLayout) made (makes_sound c.args.table.now c.args.line c.requires.sound)
