@@ -18,7 +18,7 @@ pub struct Placed {
     pub desc: Desc,
 }
 
-/// Where the matrix of a line lies.
+/// Where the matrix of a line lies; where the line makes none, as a matrix of one word on one rank.
 pub fn located(table: &[Line], line: u32) -> Placed
     requires sound { AreSound table.now }
     ensures line { result.line ≡ line }
