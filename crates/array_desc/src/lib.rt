@@ -9,9 +9,6 @@ ghost use Rattle.std.specs.Prelude.{◌≡◌, ℕ, ◌+◌, ◌-◌, ◌*◌, �
 ghost use Rattle.array_desc.specs.Maps.{owner, local, distance, global, numroc, AreNumbered, groups, group_of, ceil_div, block_in};
 ghost use Rattle.array_desc.specs.Descriptors.{first_bad_entry, desc_of, IsDesc};
 
-#[cfg(test)]
-mod tests;
-
 /// The greatest number of rows and of columns of a matrix.
 pub const MAX_SIZE: u32 = 1024;
 

@@ -8,8 +8,6 @@
 #![tactic(auto)]
 
 mod events;
-#[cfg(test)]
-mod tests;
 mod topology;
 
 pub use events::{broadcast, combine, send_piece, work_at, work_each};

@@ -9,9 +9,6 @@ ghost use Rattle.std.specs.Prelude.{◌≡◌, ◌<◌, ◌↔◌, IsTrue, IsSom
 ghost use Rattle.blacs_grid.specs.Places.{width, size, rank_at, is_member, row_of, col_of, IsScopeOf, is_in_scope, members, member, AreMembers};
 ghost use Rattle.blacs_grid.specs.Limits.{IsGrid, first_fault};
 
-#[cfg(test)]
-mod tests;
-
 /// The greatest number of process rows and of data columns.
 pub const MAX_PROCESSES: u32 = 16;
 

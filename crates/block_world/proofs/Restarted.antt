@@ -1,5 +1,5 @@
 -- Ranks that start again are those of a world that has just been opened.
-use Rattle.std.proofs.Common.{◌≡◌, ◌+◌, ℕ, suc, List, [], ◌∷◌, IfSome, length, map, slice_get, refl, sym, ap, subst, ◌∙◌, arith}
+use Rattle.std.proofs.Common.{◌≡◌, ◌+◌, ℕ, suc, List, [], ◌∷◌, IfSome, length, map, slice_get, refl, ap, subst, ◌∙◌, arith}
 use Rattle.std.specs.List.{range_with_len}
 use Rattle.rank_run.specs.Machine.{Machine}
 use Rattle.rank_machine.specs.declared.slot.Tile.{Tile}

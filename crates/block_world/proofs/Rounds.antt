@@ -1,9 +1,7 @@
 -- A world after a round.
-use Rattle.std.proofs.Common.{◌≡◌, ◌-◌, ℕ, suc, Bool, true, false, Option, List, [], ◌∷◌, ◌++◌, length, map, take, refl, sym, ap, subst, ◌∙◌, All, arith}
-use Rattle.std.specs.List.{filter}
-use Rattle.std.proofs.lemmas.Bool.{true≢false}
+use Rattle.std.proofs.Common.{◌≡◌, ◌-◌, ℕ, suc, Bool, true, Option, List, [], ◌∷◌, ◌++◌, length, map, take, slice_get, refl, sym, ap, subst, ◌∙◌, All, arith}
 use Rattle.std.proofs.lemmas.List.{append-nil, append_assoc}
-use Rattle.std.proofs.lemmas.List.Elements.{filter-append}
+use Rattle.std.proofs.lemmas.List.Elements.{All-take}
 use Rattle.field_core.specs.FieldLaws.{IsField}
 use Rattle.run_data.specs.declared.command.Command.{Command}
 use Rattle.rank_link.specs.Traffic.{empty_traffic}
@@ -12,20 +10,21 @@ use Rattle.rank_run.specs.declared.run.Ran.{Ran}
 use Rattle.rank_run.specs.declared.run.Ran.TheVariants.{Whole, Hit}
 use Rattle.rank_run.specs.Action.{Action, Works, Sends, Receives}
 use Rattle.rank_run.specs.Machine.{Machine, machine}
-use Rattle.rank_run.specs.Notary.{notary_after}
+use Rattle.rank_run.specs.Notary.{notary_after, NotDue}
 use Rattle.rank_run.specs.Parts.{IsWithin}
 use Rattle.rank_run.specs.Rounds.{after_events, MayRun}
 use Rattle.rank_run.specs.Run.{IsRun, schedule_of}
 use Rattle.rank_run.specs.Run as run
+use Rattle.rank_machine.specs.declared.slot.Slot.{Slot}
 use Rattle.rank_machine.specs.declared.slot.Tile.{Tile}
 use Rattle.rank_machine.specs.declared.slot.Piece.{Piece}
 use Rattle.rank_machine.specs.declared.kernel.Kernel.{Kernel}
 use Rattle.rank_machine.specs.declared.mark.Mark.{Mark}
 use Rattle.rank_machine.specs.declared.record.Rec.{Rec}
 use Rattle.rank_machine.specs.Setting.{Setting, ranks}
-use Rattle.rank_machine.specs.Scripts.{Matrices}
+use Rattle.rank_machine.specs.Scripts.{Matrices, setting_of}
 use Rattle.rank_machine.specs.State.{State, opened, base}
-use Rattle.rank_machine.specs.Effect.{after, replay}
+use Rattle.rank_machine.specs.Effect.{replay}
 use Rattle.rank_machine.specs.Legal.{IsLegalFrom}
 use Rattle.rank_machine.specs.Losses.{is_numbered}
 use Rattle.rank_slots.specs.Rank.{Rank, memory, base_in}
@@ -34,21 +33,17 @@ use Rattle.rank_slots.proofs.Steps.{steps, all_marks_stay, events_marks_stay, bo
 use Rattle.rank_slots.proofs.StepWords.{residues_steps}
 use Rattle.rank_slots.proofs.ListOrder.{may_run, list_stands, noted_legal, parts_within}
 use Rattle.rank_slots.proofs.Worlds.{base_kept, links_empty}
-use Rattle.block_world.specs.Log.{Log, recorded}
-use Rattle.block_world.specs.World.{WorldView, setting_in, state_of, noted, noted_all}
+use Rattle.rank_machine.specs.declared.record.Loss.{Loss}
+use Rattle.run_laws.specs.Due.{is_due_in, AreInPlace}
+use Rattle.block_world.specs.Log.{Log, recorded, is_due_next}
+use Rattle.block_world.specs.World.{WorldView, setting_in, state_of, is_due, noted, noted_all}
 use Rattle.block_world.specs.Replay.{view_of, IsReplay}
-use Rattle.block_world.specs.Rounds.{IsRoundOf}
+use Rattle.block_world.specs.Rounds.{IsRoundOf, NoneDue}
 use Rattle.block_world.specs.Rounds as rounds
-use Rattle.block_world.proofs.Replayed.{agrees, below}
-
--- ---- one journal after another
-replay-append : (s : Setting) (st : State) (xs ys : List Rec) → replay s st (xs ++ ys) ≡ replay s (replay s st xs) ys
-replay-append s st [] ys = refl
-replay-append s st (x ∷ xs) ys = replay-append s (after s st x) xs ys
-
-IsLegalFrom-append : (s : Setting) (st : State) (xs ys : List Rec) → IsLegalFrom s st xs → IsLegalFrom s (replay s st xs) ys → IsLegalFrom s st (xs ++ ys)
-IsLegalFrom-append s st [] ys legal next = next
-IsLegalFrom-append s st (x ∷ xs) ys legal next = (legal.0, IsLegalFrom-append s (after s st x) xs ys legal.1 next)
+use Rattle.block_world.proofs.FirstEvents.{legal_first, same_tiles}
+use Rattle.block_world.proofs.InPlace.{in_place-push}
+use Rattle.block_world.proofs.Journals.{replay-append, IsLegalFrom-append}
+use Rattle.block_world.proofs.Replayed.{agrees, below, flags_stay}
 
 -- a world with these records in its journal
 abbrev more : WorldView → List Rec → WorldView
@@ -68,24 +63,33 @@ noted_all-is w (x ∷ rs) = noted_all-is (noted w x) rs ∙ (λ i. record w { jo
 abbrev pub noting : Log → Action Kernel Piece → Log
 noting log step = recorded log (rec_of step)
 
-abbrev pub never : Log → Bool
-never log = false
-
 heard_all : (script : List (Option Command)) (files : Matrices) (k : Log) (ts : List (Action Kernel Piece)) → view_of script files (notary_after noting k ts) ≡ noted_all (view_of script files k) (map rec_of ts)
 heard_all script files k [] = refl
 heard_all script files k (t ∷ ts) = heard_all script files (noting k t) ts
+
+same_losses : (k : Log) (ts : List (Action Kernel Piece)) → (notary_after noting k ts).losses ≡ k.losses
+same_losses k [] = refl
+same_losses k (t ∷ ts) = same_losses (noting k t) ts
 
 step_numbered : (t : Action Kernel Piece) → is_numbered (rec_of t) ≡ true
 step_numbered (Works rank x) = refl
 step_numbered (Sends from to x) = refl
 step_numbered (Receives to from x) = refl
 
-all_numbered : (ts : List (Action Kernel Piece)) → filter is_numbered (map rec_of ts) ≡ map rec_of ts
-all_numbered [] = refl
-all_numbered (t ∷ ts) = rw (step_numbered t) (ap (λ l. rec_of t ∷ l) (all_numbered ts))
+-- the losses stand where they fall after steps before which none was due
+all_in_place : (s : Setting) (k : Log) (ts : List (Action Kernel Piece)) → k.losses ≡ s.losses → NotDue noting is_due_next k ts → AreInPlace s k.journal → AreInPlace s (k.journal ++ map rec_of ts)
+all_in_place s k [] e none h = subst (AreInPlace s) (sym (append-nil k.journal)) h
+all_in_place s k (t ∷ ts) e none h =
+    subst (AreInPlace s) (append_assoc k.journal (rec_of t ∷ []) (map rec_of ts))
+    (all_in_place s (noting k t) ts e none.1 (in_place-push s k.journal (rec_of t) (step_numbered t) (ap (λ (ls : List Loss). is_due_in ls k.journal) (sym e) ∙ none.0) h))
+
+-- none was due before a step
+all_none_due : (script : List (Option Command)) (files : Matrices) (k : Log) (ts : List (Action Kernel Piece)) → k.losses ≡ (setting_of script files).losses → NotDue noting is_due_next k ts → NoneDue (view_of script files k) (map rec_of ts)
+all_none_due script files k [] e none = tt
+all_none_due script files k (t ∷ ts) e none = (ap (λ (ls : List Loss). is_due_in ls k.journal) (sym e) ∙ none.0, all_none_due script files (noting k t) ts e none.1)
 
 -- ---- a round before it is run
-module _ (p : ℕ) (script : List (Option Command)) (files : Matrices) (k : Log) (x : Machine Rank Tile) (mark : Mark) (es : List (Event Rank Kernel Piece Tile)) (h : IsReplay p (view_of script files k) x mark) where
+module _ (p : ℕ) (script : List (Option Command)) (files : Matrices) (k : Log) (x : Machine Rank Tile) (mark : Mark) (bs : List Bool) (es : List (Event Rank Kernel Piece Tile)) (h : IsReplay p (view_of script files k) k.losses x mark bs) where
   -- nothing is on its way, the round's ranks are there, and its records, in list order, are legal
   pub record IsAllowed : Type 0 where
     pub links : (from to : ℕ) → (state_of (view_of script files k)).links from to ≡ []
@@ -118,7 +122,7 @@ module _ (p : ℕ) (script : List (Option Command)) (files : Matrices) (k : Log)
       x.mems (state_of (view_of script files k)) es (at_first a) (words_first a) a.legal (ranks_first a)
 
   -- ---- and after
-  module _ (field : IsField p) (a : IsAllowed) (k' : Log) (x' : Machine Rank Tile) (order order' : List ℕ) (ended : Ran) (ts : List (Action Kernel Piece)) (ran : IsRun (memory p) base_in noting never es x x' order order' k k' ended ts) where
+  module _ (field : IsField p) (a : IsAllowed) (k' : Log) (x' : Machine Rank Tile) (order order' : List ℕ) (ended : Ran) (ts : List (Action Kernel Piece)) (ran : IsRun (memory p) base_in noting is_due_next es x x' order order' k k' ended ts) where
     on : AgreesOn (setting_in (view_of script files k)) p h.table
     on = agrees p script files h.table h.sound h.lines
 
@@ -133,25 +137,32 @@ module _ (p : ℕ) (script : List (Option Command)) (files : Matrices) (k : Log)
     state_now : state_of (more (view_of script files k) (map rec_of ts)) ≡ replay (setting_in (view_of script files k)) (state_of (view_of script files k)) (map rec_of ts)
     state_now = replay-append (setting_in (view_of script files k)) (opened (setting_in (view_of script files k))) k.journal (map rec_of ts)
 
+    losses_now : k'.losses ≡ k.losses
+    losses_now = ap (λ (l : Log). l.losses) ran.heard ∙ same_losses k ts
+
     view_now : view_of script files k' ≡ more (view_of script files k) (map rec_of ts)
     view_now = ap (view_of script files) ran.heard ∙ heard_all script files k ts ∙ noted_all-is (view_of script files k) (map rec_of ts)
 
     -- the fields stand for the replay of the journal
-    pub replay_now : IsReplay p (view_of script files k') x' mark
+    pub replay_now : IsReplay p (view_of script files k') k'.losses x' mark bs
     replay_now =
-        subst (λ v. IsReplay p v x' mark) (sym view_now)
+        let s = setting_in (view_of script files k) in
+        let marks = all_marks_stay s (state_of (view_of script files k)) ts in
+        subst (λ (y : WorldView × List Loss). IsReplay p y.0 y.1 x' mark bs) (λ i. (sym view_now i, sym losses_now i))
         (record {
           sound = h.sound;
+          losses_are = h.losses_are;
           table = h.table;
           lines = h.lines;
-          legal = IsLegalFrom-append (setting_in (view_of script files k)) (opened (setting_in (view_of script files k))) k.journal (map rec_of ts) h.legal legal_now;
-          numbered = filter-append is_numbered k.journal (map rec_of ts) ∙ (λ i. h.numbered i ++ all_numbered ts i);
-          stands = subst (Stands (setting_in (view_of script files k)) h.table x') (sym state_now) stands_now;
+          legal = IsLegalFrom-append s (opened s) k.journal (map rec_of ts) h.legal legal_now;
+          in_place = all_in_place s k ts h.losses_are ran.not_due h.in_place;
+          stands = subst (Stands s h.table x') (sym state_now) stands_now;
           residues = subst (AreResidues p) (sym ran.after_them) (residues_steps p x ts on.some h.residues ran.allowed);
-          mark_is = h.mark_is ∙ sym (all_marks_stay (setting_in (view_of script files k)) (state_of (view_of script files k)) ts).mark ∙ sym (ap (λ (z : State). z.mark) state_now);
+          mark_is = h.mark_is ∙ sym marks.mark ∙ sym (ap (λ (z : State). z.mark) state_now);
+          flags = flags_stay s (state_of (view_of script files k)) (state_of (more (view_of script files k) (map rec_of ts))) bs (sym (ap (λ (z : State). z.lost) state_now ∙ marks.lost)) h.flags;
         })
 
-    ends : (e : Ran) → run.EndsAs e (memory p) never es x x' k' ts → rounds.EndsAs e (view_of script files k) (more (view_of script files k) (map rec_of ts)) es ts
+    ends : (e : Ran) → run.EndsAs e (memory p) is_due_next es x x' k' ts → rounds.EndsAs e (view_of script files k) (more (view_of script files k) (map rec_of ts)) es ts
     ends Whole e =
         let s = setting_in (view_of script files k) in
         let st = state_of (view_of script files k) in
@@ -159,7 +170,19 @@ module _ (p : ℕ) (script : List (Option Command)) (files : Matrices) (k : Log)
         let in_order = list_stands s p h.table x.links.ranks x.links.capacity on (below p script files field h.sound) x.mems st es (at_first a) (words_first a) a.legal (ranks_first a) in
         let marks = both_marks (replay s st (map rec_of ts)) (replay s st (records_of es)) st (all_marks_stay s st ts) (events_marks_stay s st es) in
         (e.0, state_now ∙ same_state s h.table x' (replay s st (map rec_of ts)) (replay s st (records_of es)) stands_now (subst (λ y. Stands s h.table y (replay s st (records_of es))) (sym is) in_order) marks)
-    ends Hit e = absurd (true≢false (sym e.1))
+    ends Hit e = (e.0, sym (ap (λ (ls : List Loss). is_due_in ls k'.journal) (losses_now ∙ h.losses_are) ∙ ap is_due view_now) ∙ e.1)
+
+    -- what the first events of the round leave a rank to is what their records, in list order, say
+    held_first : (rank n : ℕ) → slice_get x'.mems rank ≡ slice_get (after_events (memory p) x.mems (take n es)) rank → (slot : Slot) → (state_of (more (view_of script files k) (map rec_of ts))).tiles rank slot ≡ (replay (setting_in (view_of script files k)) (state_of (view_of script files k)) (records_of (take n es))).tiles rank slot
+    held_first rank n same slot =
+        let s = setting_in (view_of script files k) in
+        let st = state_of (view_of script files k) in
+        let sides = x.links.ranks in
+        let in_order =
+        list_stands s p h.table sides x.links.capacity on (below p script files field h.sound) x.mems st (take n es) (at_first a) (words_first a) (legal_first s st n es a.legal)
+        (All-take (IsWithin sides) n es (ranks_first a)) in
+        ap (λ (z : State). z.tiles rank slot) state_now
+        ∙ same_tiles s h.table x' (machine (after_events (memory p) x.mems (take n es)) (empty_traffic sides x.links.capacity)) (replay s st (map rec_of ts)) (replay s st (records_of (take n es))) stands_now in_order rank same slot
 
     -- what the round did
     pub round_now : IsRoundOf (view_of script files k) (view_of script files k') es order order' ended ts
@@ -173,5 +196,7 @@ module _ (p : ℕ) (script : List (Option Command)) (files : Matrices) (k : Log)
           same_base = λ rank slot.
               ap (λ z. base z rank slot) state_now
               ∙ base_kept s h.table x x' (state_of (view_of script files k)) (replay s (state_of (view_of script files k)) (map rec_of ts)) (sym ran.same_base) h.stands stands_now rank slot;
+          none_due = all_none_due script files k ts h.losses_are ran.not_due;
+          prefixes = λ rank. let z = ran.prefixes rank in (z.0, held_first rank z.0 z.2);
           end = ends ended ran.end;
         })

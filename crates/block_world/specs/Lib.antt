@@ -1,7 +1,7 @@
+pub mod Did
 pub mod Kept
 pub mod Log
 pub mod Ranks
 pub mod Replay
 pub mod Rounds
-pub mod Taken
 pub mod World

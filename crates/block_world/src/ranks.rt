@@ -1,5 +1,5 @@
 //! The memories of the ranks of a script.
-ghost use Rattle.std.specs.Prelude.{◌≡◌, ◌<◌, ◌≤◌, ◌-◌, ◌^◌, ℕ, true, map, min, length, List, IsSome, IfOk, OnOk, OnErr};
+ghost use Rattle.std.specs.Prelude.{◌≡◌, ◌<◌, ◌≤◌, ◌-◌, ◌^◌, ℕ, true, false, map, min, length, replicate, List, All, IsSome, IfOk, OnOk, OnErr};
 ghost use Rattle.std.specs.Option.{option_copied};
 ghost use Rattle.run_data.specs.Script.{commands_of};
 ghost use Rattle.rank_machine.specs.Scripts.{grids_from};
@@ -11,10 +11,13 @@ ghost use Rattle.script_lines.specs.declared.lines.Line.{Line};
 ghost use Rattle.rank_slots.specs.Cells.{AreOrdered, words_of_cells, IsTileOf};
 ghost use Rattle.rank_slots.specs.Rank.{with_tile, with_save};
 ghost use Rattle.rank_slots.specs.Stands.{tiles_at, live_at};
-ghost use Rattle.block_world.specs.Ranks.{empty_ranks, restarted, committed, cells_at};
+ghost use Rattle.rank_slots.specs.Lost.{lost_rank, restored, spawned};
+ghost use Rattle.block_world.specs.Ranks.{empty_ranks, restarted, committed, cells_at, cut_off, mems_after, links_after, flags_after, some_flag, lowered};
+ghost use Rattle.block_world.specs.Replay.{flag_at};
 
 use field_core::Field;
-use rank_machine::{Mark, Slot, Tile};
+use rank_link::Links;
+use rank_machine::{Loss, Mark, Slot, Tile};
 use rank_memory::RankMem;
 use run_data::{Command, Script};
 use script_lines::{Line, lines_of};
@@ -125,6 +128,104 @@ pub fn commit_all<K: Field>(mems: &mut [RankMem<K>], mark: Mark)
 {
     for mem in mems.iter_mut() {
         mem.commit(mark);
+    }
+}
+
+/// Every rank falls back: what was saved goes back, and what is fresh goes.
+pub fn restore_all<K: Field>(mems: &mut [RankMem<K>])
+    ensures ordered { All (λ m. AreOrdered m.cells) mems.old }
+    ensures restored { mems.new ≡ map restored mems.old }
+{
+    for mem in mems.iter_mut() {
+        mem.restore();
+    }
+}
+
+/// A rank that was lost is live.
+pub fn spawn_on<K: Field>(mems: &mut [RankMem<K>], rank: u32)
+    requires { rank < length mems.old }
+    ensures { mems.new ≡ on_rank mems.old rank spawned }
+{
+    mems[rank as usize].spawn();
+}
+
+/// A rank is lost, with its memory.
+pub fn lose_on<K: Field>(mems: &mut [RankMem<K>], rank: u32)
+    requires { rank < length mems.old }
+    ensures { mems.new ≡ on_rank mems.old rank lost_rank }
+{
+    mems[rank as usize].lose();
+}
+
+/// All messages from and to a rank go.
+pub fn cut(links: &mut Links<Tile>, rank: u32)
+    requires { rank < links.old.ranks }
+    ensures { links.new ≡ cut_off rank links.old }
+{
+    for other in 0..links.ranks() {
+        links.drain(rank, other);
+        links.drain(other, rank);
+    }
+}
+
+/// The ranks whose losses fall at a number are lost, each with its memory and its messages, and flagged.
+pub fn lose_ranks<K: Field>(
+    mems: &mut [RankMem<K>],
+    links: &mut Links<Tile>,
+    lost: &mut [bool],
+    losses: &[Loss],
+    at: u32,
+)
+    requires mems { length mems.old ≡ links.old.ranks }
+    requires flags { length lost.old ≡ links.old.ranks }
+    requires ranks { All (λ l. l.rank < links.old.ranks) losses.now }
+    ensures mems { mems.new ≡ mems_after losses.now at mems.old }
+    ensures links { links.new ≡ links_after losses.now at links.old }
+    ensures flags { lost.new ≡ flags_after losses.now at lost.old }
+{
+    for loss in losses {
+        if loss.at == at {
+            lose_on(mems, loss.rank);
+            cut(links, loss.rank);
+            lost[loss.rank as usize] = true;
+        }
+    }
+}
+
+/// A flag for each of so many ranks, all of them down.
+pub fn no_flags(alloc: Global, count: u32) -> Result<Vec<bool>, AllocError>
+    ensures { IfOk result (λ v. v.items ≡ replicate count false) }
+{
+    vec![in alloc; false; count as usize]
+}
+
+/// Whether some flag is up.
+pub fn has_flag(lost: &[bool]) -> bool
+    ensures { result ≡ some_flag lost.now }
+{
+    let mut some = false;
+    for flag in lost {
+        some = some || *flag;
+    }
+    some
+}
+
+/// Whether a rank is flagged.
+pub fn flag_on(lost: &[bool], rank: u32) -> bool
+    ensures { result ≡ flag_at lost.now rank }
+{
+    match lost.get(rank as usize) {
+        Some(flag) => *flag,
+        None => false,
+    }
+}
+
+/// All flags go down.
+pub fn lower_all(lost: &mut [bool])
+    ensures { lost.new ≡ map lowered lost.old }
+{
+    for flag in lost.iter_mut() {
+        *flag = false;
     }
 }
 

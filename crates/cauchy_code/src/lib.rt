@@ -5,8 +5,6 @@
 #![tactic(auto)]
 
 mod decode;
-#[cfg(test)]
-mod tests;
 mod weights;
 
 pub use decode::{Coefs, decode_row};

@@ -270,5 +270,13 @@ IsPrinted-strips s taken line what m is shape took =
       entries = λ i j row column.
           let row_in : i < d.desc.m = omega (arith, shape.rows) in
           let column_in : j < d.desc.n = omega (arith, shape.columns) in
-          (strip_of d m (rank_of_entry d i j) (group_of_entry d j), took (rank_of_entry d i j) (group_of_entry d j) (NamesStrip-of_entry d i j is column_in), entry-in_strip d m i j is row_in column_in);
+          let rank = rank_of_entry d i j in
+          let group = group_of_entry d j in
+          let strip : HasStripShape d rank (strip_of d m rank group) = HasStripShape-strip_of d m rank group in (
+            strip_of d m rank group,
+            took rank group (NamesStrip-of_entry d i j is column_in),
+            subst (λ n. local i d.desc.mb d.grid.p < n) (sym strip.rows) (local-below d rank group i j is (holds_entry-of_entry d i j is) row_in),
+            subst (λ n. j % d.desc.nb < n) (sym strip.columns) (mod-lt j (some_block_column d is)),
+            entry-in_strip d m i j is row_in column_in,
+          );
     }

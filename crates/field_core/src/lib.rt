@@ -8,9 +8,6 @@ ghost use Rattle.field_core.specs.Residue.{IsPrime, inverse};
 ghost use Rattle.field_core.specs.FieldLaws.{IsField, IsField-from_IsPrime};
 ghost use Rattle.field_core.specs.Primes.{prime_65537, prime_65521};
 
-#[cfg(test)]
-mod tests;
-
 /// A prime field: the integers modulo the prime `MODULUS`.
 ///
 /// Its words are the numbers from 0 to `MODULUS - 1`, as `u32`. Each call takes words and gives

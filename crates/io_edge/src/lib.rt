@@ -24,6 +24,3 @@ pub use mem_sink::MemSink;
 pub use null_sink::NullSink;
 pub use shelf::{NoMemory, Shelf, ShelfFault};
 pub use sink::{Sink, SinkFault};
-
-#[cfg(test)]
-mod tests;

@@ -176,5 +176,6 @@ pub fn add_kernel(out: &mut Vec<u8>, rank: u32, kernel: Kernel) -> Result<(), No
         Kernel::Least(to, from) => add_read(out, b"least", rank, to, from),
         Kernel::Elim(to, column, above, row) => add_elimination(out, rank, to, column, above, row),
         Kernel::Push(to, from, above) => add_read_number(out, b"push", rank, to, from, above),
+        Kernel::Trans(to, from) => add_read(out, b"trans", rank, to, from),
     }
 }

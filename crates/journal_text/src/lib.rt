@@ -31,14 +31,13 @@
 //! | `least` | the slot written, the piece read |
 //! | `elim` | the slot, a local column, the global row of the pivot from 0, the piece with that row |
 //! | `push` | the slot, the piece read, the global row from 0 that goes in where the piece holds no number |
+//! | `trans` | the slot written, the piece read |
 #![tactic(auto)]
 
 mod count;
 mod kernel;
 mod line;
 mod tally;
-#[cfg(test)]
-mod tests;
 mod text;
 mod word;
 

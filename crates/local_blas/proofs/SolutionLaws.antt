@@ -6,7 +6,7 @@ use Rattle.field_core.specs.Sums.{sum_to}
 use Rattle.field_core.proofs.Modular.{residues, same_sum, same_scaled}
 use Rattle.field_core.proofs.Sums.{sum_to-same, sum_to-same_mod, sum_to-split, sum_to-scale}
 use Rattle.field_core.proofs.WeightedSums.{weighted-sum, weighted-product}
-use Rattle.local_blas.specs.Kernels.{divided, solution}
+use Rattle.local_blas.specs.Kernels.{divided, solved_word, solution}
 use Rattle.local_blas.proofs.Solutions.{solution-equation}
 
 -- what a division by the diagonal multiplies by
@@ -74,3 +74,18 @@ solution-block p inverse unit l b m n =
   where
     regroup : (p b c s t : ℕ) → (b + c * (s + t)) % p ≡ ((b + c * s) % p + c * t) % p
     regroup p b c s t = ap (λ n. n % p) (let e : b + c * (s + t) ≡ (b + c * s) + c * t = omega arith in e) ∙ sym (let e : ((b + c * s) % p + c * t) % p ≡ ((b + c * s) + c * t) % p = simp residues in e)
+
+-- equal right sides have equal solutions
+pub solution-same : (p : ℕ) (inverse : ℕ → ℕ) (unit : Bool) (l : ℕ → ℕ → ℕ) (b c : ℕ → ℕ) (n : ℕ) → ((i : ℕ) → i < n → b i ≡ c i) → (i : ℕ) → i < n → solution p inverse unit l b i ≡ solution p inverse unit l c i
+solution-same p inverse unit l b c n same =
+    solution_is p inverse unit l c (solution p inverse unit l b) n
+    (λ i h. solution-equation p inverse unit l b i
+    ∙ ap (λ x. divided p inverse unit (l i i) ((x + (p - 1) * sum_to i (λ k. l i k * solution p inverse unit l b k)) % p)) (same i h))
+
+-- the next word, once the words above it are found
+pub solution-next : (p : ℕ) (inverse : ℕ → ℕ) (unit : Bool) (l : ℕ → ℕ → ℕ) (b : ℕ → ℕ) (i x : ℕ) (v : ℕ → ℕ) → x ≡ b i → ((k : ℕ) → k < i → v k ≡ solution p inverse unit l b k) → solved_word p inverse unit (l i i) x (sum_to i (λ k. l i k * v k)) ≡ solution p inverse unit l b i
+solution-next p inverse unit l b i x v e found =
+    let y : ℕ → ℕ = solution p inverse unit l b in
+    ap (λ n. solved_word p inverse unit (l i i) n (sum_to i (λ k. l i k * v k))) e
+    ∙ ap (solved_word p inverse unit (l i i) (b i)) (sum_to-same i (λ k. l i k * v k) (λ k. l i k * y k) (λ k h. ap (λ n. l i k * n) (found k h)))
+    ∙ sym (solution-equation p inverse unit l b i)

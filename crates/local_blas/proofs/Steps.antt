@@ -1,10 +1,11 @@
 -- Numbers as the kernels compute them, step by step.
-use Rattle.std.proofs.Common.{◌≡◌, ℕ, ◌+◌, ◌-◌, ◌*◌, ◌%◌, ◌<◌, refl, sym, ◌∙◌, ap, arith}
+use Rattle.std.proofs.Common.{◌≡◌, ℕ, ◌+◌, ◌-◌, ◌*◌, ◌%◌, ◌<◌, Bool, refl, sym, ◌∙◌, ap, arith}
 use Rattle.std.proofs.Math.Nat.{mod-eq_of_lt}
 use Rattle.std.proofs.lemmas.Nat.{mul-mod_second}
 use Rattle.field_core.specs.Sums.{sum_to}
 use Rattle.field_core.proofs.Modular.{residues, same_mod, same_sum, sub-product}
 use Rattle.field_core.proofs.Sums.{sum_to-none, sum_to-more}
+use Rattle.local_blas.specs.Kernels.{divided, solved_word}
 
 -- a sum before its first term
 pub sum_starts : (p : ℕ) (f : ℕ → ℕ) → 0 < p → 0 ≡ sum_to 0 f % p
@@ -42,3 +43,9 @@ loses_product p x m r n new r_lt e_n e_new =
     let times : ((p - 1) + 1) * (m * r) ≡ p * (m * r) = ap (λ k. k * (m * r)) one in
     e_new ∙ ap (λ k. (x + m * k) % p) e_n ∙ taken_out p x m d
     ∙ same_mod p (x + m * d) (x + (p - 1) * (m * r)) (m * r) m (omega arith)
+
+-- a word that loses a sum and is divided by the diagonal
+pub solves_word : (p : ℕ) (inverse : ℕ → ℕ) (unit : Bool) (d x s : ℕ) (d' x' y word new : ℕ) → x < p → d' ≡ d → x' ≡ x → y ≡ s % p → word ≡ (x' + (p - y)) % p → new ≡ divided p inverse unit d' word → new ≡ solved_word p inverse unit d x s
+solves_word p inverse unit d x s d' x' y word new x_lt e_d e_x e_y e_word e_new =
+    e_new ∙ ap (λ n. divided p inverse unit n word) e_d
+    ∙ ap (divided p inverse unit d) (loses p x s y word x_lt e_y (e_word ∙ ap (λ n. (n + (p - y)) % p) e_x))

@@ -3,7 +3,7 @@ use Rattle.std.proofs.Common.{◌≡◌, ℕ, zero, suc, ◌+◌, ◌-◌, ◌*�
 use Rattle.field_core.specs.Sums.{sum_to}
 use Rattle.field_core.proofs.Modular.{residues}
 use Rattle.field_core.proofs.Sums.{sum_to-same, sum_to-split, sum_to-reversed}
-use Rattle.local_blas.specs.Kernels.{divided, solution, from_last, upper_solution}
+use Rattle.local_blas.specs.Kernels.{divided, solved_word, solution, from_last, upper_solution}
 use Rattle.local_blas.proofs.Solutions.{solution-equation, solution-below}
 use Rattle.local_blas.proofs.SolutionLaws.{solution-weighted}
 
@@ -80,3 +80,20 @@ upper_solution-first_block p inverse unit m n u b =
   where
     regroup : (p b c s t : ℕ) → (b + c * (s + t)) % p ≡ ((b + c * t) % p + c * s) % p
     regroup p b c s t = ap (λ n. n % p) (let e : b + c * (s + t) ≡ (b + c * t) + c * s = omega arith in e) ∙ sym (let e : ((b + c * t) % p + c * s) % p ≡ ((b + c * t) + c * s) % p = simp residues in e)
+
+-- equal right sides have equal solutions
+pub upper_solution-same : (p : ℕ) (inverse : ℕ → ℕ) (unit : Bool) (n : ℕ) (u : ℕ → ℕ → ℕ) (b c : ℕ → ℕ) → ((i : ℕ) → i < n → b i ≡ c i) → (i : ℕ) → i < n → upper_solution p inverse unit n u b i ≡ upper_solution p inverse unit n u c i
+upper_solution-same p inverse unit n u b c same =
+    upper_solution_is p inverse unit n u c (upper_solution p inverse unit n u b)
+    (λ i h. upper_solution-equation p inverse unit n u b i h
+    ∙ ap (λ x. divided p inverse unit (u i i) ((x + (p - 1) * sum_to (n - 1 - i) (λ k. u i (i + 1 + k) * upper_solution p inverse unit n u b (i + 1 + k))) % p)) (same i h))
+
+-- the next word, once the words below it are found
+pub upper_solution-next : (p : ℕ) (inverse : ℕ → ℕ) (unit : Bool) (n : ℕ) (u : ℕ → ℕ → ℕ) (b : ℕ → ℕ) (i x : ℕ) (v : ℕ → ℕ) → i < n → x ≡ b i → ((k : ℕ) → i < k → k < n → v k ≡ upper_solution p inverse unit n u b k) → solved_word p inverse unit (u i i) x (sum_to (n - 1 - i) (λ k. u i (i + 1 + k) * v (i + 1 + k))) ≡ upper_solution p inverse unit n u b i
+upper_solution-next p inverse unit n u b i x v h e found =
+    let y : ℕ → ℕ = upper_solution p inverse unit n u b in
+    ap (λ m. solved_word p inverse unit (u i i) m (sum_to (n - 1 - i) (λ k. u i (i + 1 + k) * v (i + 1 + k)))) e
+    ∙ ap (solved_word p inverse unit (u i i) (b i))
+    (sum_to-same (n - 1 - i) (λ k. u i (i + 1 + k) * v (i + 1 + k)) (λ k. u i (i + 1 + k) * y (i + 1 + k))
+    (λ k hk. ap (λ m. u i (i + 1 + k) * m) (found (i + 1 + k) (omega arith) (omega arith))))
+    ∙ sym (upper_solution-equation p inverse unit n u b i h)

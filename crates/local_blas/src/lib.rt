@@ -10,8 +10,6 @@ mod product;
 mod rows;
 mod scaling;
 mod solve;
-#[cfg(test)]
-mod tests;
 mod words;
 
 pub use product::mul_add;

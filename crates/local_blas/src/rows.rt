@@ -1,14 +1,15 @@
 //! What Gaussian elimination does to rows: the search for a pivot, exchange and elimination.
 
-ghost use Rattle.std.specs.Prelude.{◌≡◌, ℕ, ◌<◌, ◌≤◌, ◌≢◌, ◌↔◌, nat_le, IsNone, IfSome};
+ghost use Rattle.std.specs.Prelude.{◌≡◌, ℕ, ◌+◌, ◌*◌, ◌%◌, ◌<◌, ◌≤◌, ◌≢◌, ◌↔◌, nat_le, IsNone, IfSome};
 ghost use Rattle.field_core.specs.Residue.{inverse};
 ghost use Rattle.run_data.specs.Matrix.{Matrix, cols, entry};
-ghost use Rattle.run_data.specs.Parts.{whole_part};
+ghost use Rattle.run_data.specs.Parts.{IsWithin, whole_part, with_part};
 ghost use Rattle.local_blas.specs.Kernels.{AreWords, with_eliminated, with_rows_swapped};
 
-use crate::words::add_product;
+use crate::scaling::scale_column;
+use crate::words::{add_product, column_of};
 use field_core::Field;
-use run_data::Mat;
+use run_data::{Mat, Part};
 
 /// The first row from `from` on whose word in column `j` is not 0, or `None` where there is none.
 ///
@@ -47,6 +48,26 @@ pub fn swap_rows(dst: &mut Mat, i: u32, j: u32)
     }
 }
 
+/// Adds `negative` times column `j` to the part `at` of another column, in the rows of that part (as
+/// BLAS's xAXPY).
+#[tactic(auto, using(run_data::proofs::Fills::fills))]
+fn eliminate_column<K: Field>(dst: &mut Mat, at: Part, j: u32, negative: u32)
+    requires part { IsWithin at dst.old }
+    requires column { at.c1 ≡ at.c0 + 1 }
+    requires multipliers { j < cols dst.old }
+    requires other { j ≢ at.c0 }
+    requires factor { negative < K.MODULUS }
+    requires words { AreWords K.MODULUS dst.old }
+    ensures { dst.new ≡ with_part dst.old at (λ r c. (entry dst.old r c + entry dst.old r j * negative) % K.MODULUS) }
+{
+    let _shaped = dst.rows();
+    for i in at.r0..at.r1 {
+        let word = dst.get(i, at.c0);
+        let multiplier = dst.get(i, j);
+        dst.set(i, at.c0, add_product::<K>(word, multiplier, negative));
+    }
+}
+
 /// Eliminates column `j` in the rows of `dst` from `from` on by a pivot row, a matrix of one row
 /// and as many columns, whose word in column `j` is not 0.
 ///
@@ -64,19 +85,16 @@ pub fn eliminate<K: Field>(dst: &mut Mat, from: u32, j: u32, row: &Mat)
     requires pivot { entry row.now 0 j ≢ 0 }
     ensures { dst.new ≡ with_eliminated K.MODULUS (inverse K.MODULUS) dst.old (nat_le from) j row.now (whole_part row.now) }
 {
-    let rows = dst.rows();
-    let cols = dst.cols();
+    let below = Part {
+        r0: from,
+        r1: dst.rows(),
+        c0: j,
+        c1: dst.cols(),
+    };
     let inverse = K::inv(row.get(0, j));
-    'multipliers: for i in from..rows {
-        let word = dst.get(i, j);
-        dst.set(i, j, K::mul(word, inverse));
-    }
-    for k in j + 1..cols {
+    scale_column::<K>(dst, column_of(below, j), inverse);
+    for k in j + 1..below.c1 {
         let negative = K::neg(row.get(0, k));
-        for i in from..rows {
-            let word = dst.get(i, k);
-            let multiplier = dst.get(i, j);
-            dst.set(i, k, add_product::<K>(word, multiplier, negative));
-        }
+        eliminate_column::<K>(dst, column_of(below, k), j, negative);
     }
 }

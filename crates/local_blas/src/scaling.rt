@@ -1,14 +1,31 @@
 //! A part times a number, and a part that gains a multiple of another.
 
-ghost use Rattle.std.specs.Prelude.{◌≡◌, ◌<◌};
+ghost use Rattle.std.specs.Prelude.{◌≡◌, ◌+◌, ◌<◌};
 ghost use Rattle.run_data.specs.Matrix.{Matrix};
 ghost use Rattle.run_data.specs.Parts.{IsWithin, SameShape};
 ghost use Rattle.local_blas.specs.Kernels.{AreWords, with_scaled, with_added, everywhere};
 
+use crate::words::column_of;
 use field_core::Field;
 use run_data::{Mat, Part};
 
-/// Multiplies each word of the part `at` of `dst` by `a` (as BLAS's xSCAL for each column).
+/// Multiplies each word of a part of one column by `a` (as BLAS's xSCAL).
+#[tactic(auto, using(run_data::proofs::Fills::fills))]
+pub(crate) fn scale_column<K: Field>(dst: &mut Mat, at: Part, a: u32)
+    requires dst_part { IsWithin at dst.old }
+    requires column { at.c1 ≡ at.c0 + 1 }
+    requires factor { a < K.MODULUS }
+    requires dst_words { AreWords K.MODULUS dst.old }
+    ensures { dst.new ≡ with_scaled K.MODULUS dst.old at a }
+{
+    let _shaped = dst.rows();
+    for i in at.r0..at.r1 {
+        let word = dst.get(i, at.c0);
+        dst.set(i, at.c0, K::mul(word, a));
+    }
+}
+
+/// Multiplies each word of the part `at` of `dst` by `a`, column by column.
 #[tactic(auto, using(run_data::proofs::Fills::fills))]
 pub fn scale<K: Field>(dst: &mut Mat, at: Part, a: u32)
     requires dst_part { IsWithin at dst.old }
@@ -18,10 +35,7 @@ pub fn scale<K: Field>(dst: &mut Mat, at: Part, a: u32)
 {
     let _shaped = dst.rows();
     for j in at.c0..at.c1 {
-        for i in at.r0..at.r1 {
-            let word = dst.get(i, j);
-            dst.set(i, j, K::mul(word, a));
-        }
+        scale_column::<K>(dst, column_of(at, j), a);
     }
 }
 

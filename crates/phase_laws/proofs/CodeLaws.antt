@@ -88,7 +88,7 @@ low_sum_at s st mark line d row group c l j desc h hl hj =
 
 -- the open panel's group has one column in it, on the panel's process column
 opened_is : (s : Setting) (mark : Mark) (line : ℕ) → has_open s mark line ≡ true → mark.opened ≡ true
-opened_is s mark line is = (and_parts (factoring s mark == line) mark.opened is).1
+opened_is s mark line is = (and_parts (nat_lt 0 line && (factoring s mark == line)) mark.opened is).1
 
 width_open : (mark : Mark) (d : Layout) → mark.opened ≡ true → open_width mark d ≡ d.desc.nb
 width_open mark d e = if_true mark.opened d.desc.nb e
@@ -124,11 +124,11 @@ not_open : (s : Setting) (mark : Mark) (line : ℕ) (d : Layout) (group j q : �
 not_open s mark line d group j q desc hj hq low is =
     let first = mark.closed * d.desc.nb in
     let k = columns_of d group j q in
-    let factored : (factoring s mark == line) ≡ true = (and_parts (factoring s mark == line) (nat_le mark.merged group) low).0 in
+    let factored : (nat_lt 0 line && (factoring s mark == line)) ≡ true = (and_parts (nat_lt 0 line && (factoring s mark == line)) (nat_le mark.merged group) low).0 in
     elim (cases_Bool mark.opened) [
       | inl opened ↦
           (let wide : open_width mark d ≡ d.desc.nb = width_open mark d opened in
-          let open_now : has_open s mark line ≡ true = and_from (factoring s mark == line) mark.opened factored opened in
+          let open_now : has_open s mark line ≡ true = and_from (nat_lt 0 line && (factoring s mark == line)) mark.opened factored opened in
           let other : group ≢ group_of mark.closed d.grid.q =
           λ e. both_ways (is_open_group s mark line d group) is (and_from (has_open s mark line) (group == mark.closed / d.grid.q) open_now (eq-eqb group (mark.closed / d.grid.q) e)) in
           let out = group-outside group d.desc.nb d.desc.csrc d.grid.q j mark.closed (mark.closed + 1) hj desc.column_source
@@ -263,7 +263,7 @@ making-coded s st mark line d group c j pos_p none_closed none_open summed no_lo
     let stages = stages_of mark d group j in
     let first : mark.closed * d.desc.nb ≡ 0 = ap (λ k. k * d.desc.nb) none_closed ∙ (let e : 0 * d.desc.nb ≡ 0 = omega arith in e) in
     let narrow : open_width mark d ≡ 0 = width_none mark d none_open in
-    let closed_group : is_open_group s mark line d group ≡ false = and_left (has_open s mark line) (group == mark.closed / d.grid.q) (and_right (factoring s mark == line) mark.opened none_open) in
+    let closed_group : is_open_group s mark line d group ≡ false = and_left (has_open s mark line) (group == mark.closed / d.grid.q) (and_right (nat_lt 0 line && (factoring s mark == line)) mark.opened none_open) in
     let no_open : (i : ℕ) → open_column s st mark line d group c j i ≡ 0 = λ i. if_not (is_open_group s mark line d group) (code_column st Open line d 0 c j i) closed_group in
     coded-from_whole p d.grid.q w stages col x (code_column st Code line d group c j) (low_column s st mark line d group c j) (open_column s st mark line d group c j) pos_p
     (record {

@@ -42,6 +42,7 @@ setting =
       jobs = record (no_job 2) { makes = Some layout_2 } ∷ record (no_job 3) { factors = 2 } ∷ [];
       capacity = 1;
       losses = [];
+      spares = None;
       files = λ line. record { rows = 0; columns = [] };
     }
 
@@ -79,6 +80,7 @@ state =
       links = λ from to. [];
       mark = under;
       lost = λ rank. false;
+      spawned = 0;
       taken = [];
       committed = [];
     }

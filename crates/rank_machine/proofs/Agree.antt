@@ -2,10 +2,8 @@
 use Rattle.std.proofs.Common.{◌∙◌, ◌≡◌, ◌+◌, ◌*◌, ◌%◌, ◌<◌, ◌≤◌, ◌⊎◌, ◌&&◌, ◌||◌, ◌==◌, ◌∷◌, ℕ, zero, suc, Bool, true, false, Option, Some, None, is_some, List, length, refl, ⊎_elim, ap, arith, sym, subst, inl, inr, []}
 use Rattle.std.specs.Prelude.{slice_index_or, nat_lt, nat_le, min, Contains}
 use Rattle.cauchy_code.specs.Cauchy.{IsDecoding}
-use Rattle.run_data.specs.Matrix.{entry}
-use Rattle.array_desc.specs.Maps.{owner}
 use Rattle.blacs_grid.specs.declared.Grid.{Grid}
-use Rattle.blacs_grid.specs.Places.{width, rank_at}
+use Rattle.blacs_grid.specs.Places.{width, row_of, rank_at}
 use Rattle.rank_machine.specs.declared.slot.SlotKind.TheVariants.{Data, Code, Low, Open, Pivots}
 use Rattle.rank_machine.specs.declared.slot.Tile.{Tile}
 use Rattle.rank_machine.specs.declared.slot.Tile.TheVariants.{Words, Index}
@@ -17,7 +15,7 @@ use Rattle.rank_machine.specs.State.{State, opened}
 use Rattle.rank_machine.specs.Effect.{numbers_of, is_index, has_ended, is_live_matrix, is_live_list, after}
 use Rattle.rank_machine.specs.CodeLaw.{slot_at, has_low, has_open, is_open_group, data_word, code_word, symbol, weighted_sum, is_multiplier, is_open_column, is_strip_of, IsPlace, MatrixLaw, ListLaw, pivots_of, CodeLaw}
 use Rattle.rank_machine.specs.Marks.{same_bool, has_numbers}
-use Rattle.rank_machine.specs.Legal.{holds, factor_of, is_among, is_plain_factor, lost_columns, IsDecodingEntry, FactorOf, some_lost, IsNext, IsLegalRec, IsLegalFrom, IsLegal}
+use Rattle.rank_machine.specs.Legal.{factor_of, is_among, is_plain_factor, lost_columns, IsDecodingEntry, FactorOf, some_lost, IsNext, IsLegalRec, IsLegalFrom, IsLegal}
 use Rattle.rank_machine.specs.Tests.{each_place, when, data_test, sums_test, code_test, open_test, group_test, matrix_test, same_numbers, list_test, matrix_test_if, list_test_if, law_test, Known, same_bools, is_known, factor_test, same_mark, next_test, rec_test, legal_from, legal_test}
 use Rattle.std.proofs.lemmas.Bool.{eqb-true, and_parts, cases_lt, cases_Bool}
 use Rattle.std.proofs.lemmas.Bool.Decides.{nat_tests}
@@ -221,7 +219,7 @@ factor-from : (s : Setting) (known : List Known) (st : State) (rank : ℕ) (f : 
 factor-from s known st rank None all h = tt
 factor-from s known st rank (Some a) all h =
     let g = grid_of_rank s rank in
-    ⊎_elim (λ (e : is_plain_factor s st rank a ≡ true). inl e) (λ (e : is_known known g.q (lost_columns st g rank) a ≡ true). inr (known-from s known g (lost_columns st g rank) a all e)) (or_cases (is_plain_factor s st rank a) (is_known known g.q (lost_columns st g rank) a) h)
+    ⊎_elim (λ (e : is_plain_factor s st rank a ≡ true). inl e) (λ (e : is_known known g.q (lost_columns st g (row_of g rank)) a ≡ true). inr (known-from s known g (lost_columns st g (row_of g rank)) a all e)) (or_cases (is_plain_factor s st rank a) (is_known known g.q (lost_columns st g (row_of g rank)) a) h)
 
 -- ---- records
 same_mark-true : (a b : Mark) → same_mark a b ≡ true → a ≡ b
@@ -277,7 +275,10 @@ IsLegalRec-from_test s known st (r.Take rank slot) all h =
     let b = and_parts _ _ a.1 in
     record { live = a.0; held = b.0; allowed = b.1 }
 IsLegalRec-from_test s known st r.Restore all h = tt
-IsLegalRec-from_test s known st (r.Spawn rank) all h = let a = and_parts _ _ h in record { there = a.0; gone = a.1 }
+IsLegalRec-from_test s known st (r.Spawn rank) all h =
+    let a = and_parts _ _ h in
+    let b = and_parts _ _ a.1 in
+    record { there = a.0; gone = b.0; spare = b.1 }
 IsLegalRec-from_test s known st (r.Commit mark healed) all h =
     let a = and_parts _ _ h in
     let b = and_parts _ _ a.1 in

@@ -1,6 +1,6 @@
 -- What else is computed of worked journals: words held after each record, and printed words.
 use Rattle.std.proofs.Common.{◌%◌, ◌&&◌, ◌==◌, ◌∷◌, ℕ, Bool, true, List, []}
-use Rattle.std.specs.Prelude.{nat_le}
+use Rattle.std.specs.Prelude.{nat_le, nat_lt}
 use Rattle.run_data.specs.Matrix.{Matrix, cols, entry}
 use Rattle.array_desc.specs.Maps.{local}
 use Rattle.rank_machine.specs.declared.slot.Slot.{Slot}
@@ -22,4 +22,8 @@ abbrev pub printed_test : Setting → List Took → ℕ → ℕ → Matrix → B
 printed_test s taken line what m =
     let d = layout s what in
     ((m.rows == d.desc.m) && (cols m == d.desc.n))
-    && all_below m.rows (λ i. all_below (cols m) (λ j. let t = tile_of taken line what d i j in is_words t && (entry m i j == entry (words_of t) (local i d.desc.mb d.grid.p) (j % d.desc.nb))))
+    && all_below m.rows (λ i. all_below (cols m) (λ j.
+    let t = tile_of taken line what d i j in
+    let row = local i d.desc.mb d.grid.p in
+    let column = j % d.desc.nb in
+    is_words t && ((nat_lt row (words_of t).rows && nat_lt column (cols (words_of t))) && (entry m i j == entry (words_of t) row column))))

@@ -19,3 +19,5 @@ mod SpoiledCommits
 mod SpoiledKernels
 mod SpoiledSteps
 mod SpoiledPanels
+mod Refused
+mod Edges

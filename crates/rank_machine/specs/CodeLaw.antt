@@ -20,10 +20,10 @@ slot_at kind line group = record { kind = kind; id = line; group = group }
 
 -- ---- which slots count
 abbrev pub has_low : Setting → Mark → ℕ → ℕ → Bool
-has_low s mark line group = (factoring s mark == line) && nat_le mark.merged group
+has_low s mark line group = (nat_lt 0 line && (factoring s mark == line)) && nat_le mark.merged group
 
 abbrev pub has_open : Setting → Mark → ℕ → Bool
-has_open s mark line = (factoring s mark == line) && mark.opened
+has_open s mark line = (nat_lt 0 line && (factoring s mark == line)) && mark.opened
 
 -- the open panel counts in its own group alone
 abbrev pub is_open_group : Setting → Mark → ℕ → Layout → ℕ → Bool

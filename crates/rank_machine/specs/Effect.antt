@@ -106,6 +106,7 @@ target (k.Diag to from n) = piece.Whole to
 target (k.Least to from) = piece.Whole to
 target (k.Elim to j above row) = piece.Whole to
 target (k.Push to from above) = piece.Whole to
+target (k.Trans to from) = piece.Whole to
 
 -- the entries of block column J whose global row is at most, or greater than, their global column
 abbrev pub reaches : Setting → ℕ → Slot → Cut → ℕ → ℕ → Bool
@@ -143,6 +144,10 @@ is_zero_here s rank mem line i =
 abbrev pub pushed : ℕ → ℕ → ℕ
 pushed number above = if number == none_number then above + 1 else number
 
+-- rows become columns
+abbrev pub transposed : Matrix → Matrix
+transposed m = tabulate (cols m) m.rows (λ i j. entry m j i)
+
 abbrev pub zero_tile : Slot → ℕ → ℕ → Tile
 zero_tile slot rows columns = if same_kind slot.kind Pivots then Index [] else Words (zero_matrix rows columns)
 
@@ -161,6 +166,7 @@ made_by s rank mem (k.Least to from) = Index (min (number_of (mem to)) (number_o
 made_by s rank mem (k.Elim to j above row) =
     Words (with_eliminated s.modulus s.inverse (words_of (mem to)) (λ i. nat_lt above (global_row (layout s to.id) rank i)) j (matrix_in mem row) (area_in mem row))
 made_by s rank mem (k.Push to from above) = Index (numbers_of (mem to) ++ pushed (number_of (mem (slot_of from))) above ∷ [])
+made_by s rank mem (k.Trans to from) = Words (transposed (part_of (matrix_in mem from) (area_in mem from)))
 
 -- ---- what is live under a mark
 abbrev pub has_ended : Mark → ℕ → Bool
@@ -221,7 +227,7 @@ after s st (r.Save rank slot) = record st { saved = at_slot st.saved rank slot (
 after s st (r.Take rank slot) = record st { taken = st.taken ++ (record { line = current s st.mark; rank = rank; slot = slot; tile = st.tiles rank slot }) ∷ [] }
 after s st r.Restore =
     record st { tiles = λ rank slot. if st.live rank then base st rank slot else st.tiles rank slot; saved = λ _ _. None; fresh = λ _ _. false; links = λ _ _. []; taken = [] }
-after s st (r.Spawn rank) = record st { live = at_rank st.live rank true }
+after s st (r.Spawn rank) = record st { live = at_rank st.live rank true; spawned = st.spawned + 1 }
 after s st (r.Commit mark healed) =
     record st {
       tiles = λ rank slot. if is_live s mark rank slot then st.tiles rank slot else None;

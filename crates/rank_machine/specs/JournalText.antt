@@ -61,6 +61,7 @@ kernel_words rank (k.Diag to from n) = codes "diag" ∷ decimal rank ∷ slot_te
 kernel_words rank (k.Least to from) = codes "least" ∷ decimal rank ∷ slot_text to ∷ piece_text from ∷ []
 kernel_words rank (k.Elim to j above row) = codes "elim" ∷ decimal rank ∷ slot_text to ∷ decimal j ∷ decimal above ∷ piece_text row ∷ []
 kernel_words rank (k.Push to from above) = codes "push" ∷ decimal rank ∷ slot_text to ∷ piece_text from ∷ decimal above ∷ []
+kernel_words rank (k.Trans to from) = codes "trans" ∷ decimal rank ∷ slot_text to ∷ piece_text from ∷ []
 
 abbrev pub flag_text : Bool → List ℕ
 flag_text true = codes "1"

@@ -4,11 +4,10 @@ use Rattle.std.specs.List.{range_with_len}
 use Rattle.cauchy_code.specs.Cauchy.{IsDecoding, weight}
 use Rattle.run_data.specs.declared.matrix.Part.{Part}
 use Rattle.run_data.specs.Matrix.{Matrix, cols, entry}
-use Rattle.array_desc.specs.Maps.{owner}
 use Rattle.blacs_grid.specs.declared.Grid.{Grid}
 use Rattle.blacs_grid.specs.Places.{width, is_member, row_of, col_of, rank_at, is_data_rank}
 use Rattle.rank_machine.specs.declared.slot.SlotKind.{SlotKind}
-use Rattle.rank_machine.specs.declared.slot.SlotKind.TheVariants.{Data, Pivots, Work}
+use Rattle.rank_machine.specs.declared.slot.SlotKind.TheVariants.{Data, Code, Low, Open, Pivots, Work}
 use Rattle.rank_machine.specs.declared.slot.Slot.{Slot}
 use Rattle.rank_machine.specs.declared.slot.Tile.{Tile}
 use Rattle.rank_machine.specs.declared.slot.Tile.TheVariants.{Words, Index}
@@ -24,7 +23,7 @@ use Rattle.rank_machine.specs.declared.record.Rec.TheVariants as r
 use Rattle.rank_machine.specs.Setting.{Path, anywhere, forwards, backwards, members, Setting, all_below, some_below, ranks, grid_of_rank, job, layout, is_matrix, blocks, group_count}
 use Rattle.rank_machine.specs.State.{kind_number, same_kind, same_slot, State, opened}
 use Rattle.rank_machine.specs.Effect.{words_of, numbers_of, is_words, is_index, slot_of, is_whole, Memory, matrix_in, area_in, piece_in, target, current, after}
-use Rattle.rank_machine.specs.CodeLaw.{slot_at, CodeLaw}
+use Rattle.rank_machine.specs.CodeLaw.{slot_at, is_strip_of, CodeLaw}
 use Rattle.rank_machine.specs.Marks.{follows}
 
 -- ---- slots and pieces
@@ -67,7 +66,8 @@ abbrev pub has_shape_of : Option Tile → Tile → Bool
 has_shape_of None t = true
 has_shape_of (Some (Words m)) (Words t) = (m.rows == t.rows) && (cols m == cols t)
 has_shape_of (Some (Index ns)) (Index ms) = true
-has_shape_of _ _ = false
+has_shape_of (Some (Words m)) (Index ns) = false
+has_shape_of (Some (Index ns)) (Words m) = false
 
 -- a slot that lies in a matrix, on a rank of its grid
 abbrev pub in_matrix : Setting → ℕ → Slot → Bool
@@ -88,14 +88,24 @@ reads (k.Diag to from n) = from ∷ []
 reads (k.Least to from) = from ∷ []
 reads (k.Elim to j above row) = row ∷ []
 reads (k.Push to from above) = from ∷ []
+reads (k.Trans to from) = from ∷ []
 
 -- a kernel that may make its slot; each other one needs it there
 abbrev pub makes : Kernel → Bool
 makes (k.Zero to rows columns) = true
 makes (k.Copy to from) = is_whole to
+makes (k.Scale to a) = false
+makes (k.Add to a from cut) = false
+makes (k.MulAdd to a left right) = false
+makes (k.Lower to block unit) = false
+makes (k.Upper to block unit) = false
+makes (k.Swap to i j) = false
 makes (k.First to from j above) = true
 makes (k.Diag to from n) = true
-makes _ = false
+makes (k.Least to from) = false
+makes (k.Elim to j above row) = false
+makes (k.Push to from above) = false
+makes (k.Trans to from) = true
 
 abbrev pub is_apart : Slot → List Piece → Bool
 is_apart slot [] = true
@@ -116,6 +126,7 @@ is_held mem (k.Diag to from n) = holds_words mem from
 is_held mem (k.Least to from) = is_number (mem to) && holds_number mem from
 is_held mem (k.Elim to j above row) = is_words (mem to) && holds_words mem row
 is_held mem (k.Push to from above) = is_index (mem to) && holds_number mem from
+is_held mem (k.Trans to from) = holds_words mem from
 
 -- shapes agree, and each local row and column that is named is there
 abbrev pub is_square : Part → Part → Bool
@@ -131,14 +142,29 @@ is_shaped mem (k.Upper to block unit) = is_square (area_in mem block) (area_in m
 is_shaped mem (k.Swap to i j) = nat_lt i (words_of (mem to)).rows && nat_lt j (words_of (mem to)).rows
 is_shaped mem (k.First to from j above) = nat_lt j (breadth (area_in mem from))
 is_shaped mem (k.Elim to j above row) = ((height (area_in mem row) == 1) && (breadth (area_in mem row) == cols (words_of (mem to)))) && nat_lt j (cols (words_of (mem to)))
-is_shaped mem _ = true
+is_shaped mem (k.Zero to rows columns) = true
+is_shaped mem (k.Scale to a) = true
+is_shaped mem (k.Diag to from n) = true
+is_shaped mem (k.Least to from) = true
+is_shaped mem (k.Push to from above) = true
+is_shaped mem (k.Trans to from) = true
 
 -- no divisor is zero
 abbrev pub has_divisors : Memory → Kernel → Bool
 has_divisors mem (k.Lower to block unit) = unit || all_below (height (area_in mem block)) (λ i. not (entry (matrix_in mem block) ((area_in mem block).r0 + i) ((area_in mem block).c0 + i) == 0))
 has_divisors mem (k.Upper to block unit) = unit || all_below (height (area_in mem block)) (λ i. not (entry (matrix_in mem block) ((area_in mem block).r0 + i) ((area_in mem block).c0 + i) == 0))
 has_divisors mem (k.Elim to j above row) = not (entry (matrix_in mem row) (area_in mem row).r0 ((area_in mem row).c0 + j) == 0)
-has_divisors mem _ = true
+has_divisors mem (k.Zero to rows columns) = true
+has_divisors mem (k.Copy to from) = true
+has_divisors mem (k.Scale to a) = true
+has_divisors mem (k.Add to a from cut) = true
+has_divisors mem (k.MulAdd to a left right) = true
+has_divisors mem (k.Swap to i j) = true
+has_divisors mem (k.First to from j above) = true
+has_divisors mem (k.Diag to from n) = true
+has_divisors mem (k.Least to from) = true
+has_divisors mem (k.Push to from above) = true
+has_divisors mem (k.Trans to from) = true
 
 -- where the effect speaks of global rows or of a matrix, the slot lies in one
 abbrev pub is_cut_placed : Setting → ℕ → Slot → Cut → Bool
@@ -151,21 +177,52 @@ is_placed s rank (k.Add to a from cut) = is_cut_placed s rank (slot_of to) cut
 is_placed s rank (k.First to from j above) = is_whole from && in_matrix s rank (slot_of from)
 is_placed s rank (k.Diag to from n) = is_whole from && in_matrix s rank (slot_of from)
 is_placed s rank (k.Elim to j above row) = in_matrix s rank to
-is_placed s rank _ = true
+is_placed s rank (k.Zero to rows columns) = true
+is_placed s rank (k.Copy to from) = true
+is_placed s rank (k.Scale to a) = true
+is_placed s rank (k.MulAdd to a left right) = true
+is_placed s rank (k.Lower to block unit) = true
+is_placed s rank (k.Upper to block unit) = true
+is_placed s rank (k.Swap to i j) = true
+is_placed s rank (k.Least to from) = true
+is_placed s rank (k.Push to from above) = true
+is_placed s rank (k.Trans to from) = true
 
 -- `diag` reads every strip of the matrix that a data rank holds: they are all there, with words, and it writes none of them
 abbrev pub has_strips : Setting → ℕ → Memory → Kernel → Bool
 has_strips s rank mem (k.Diag to from n) =
     let d = layout s (slot_of from).id in
-    not (is_data_rank d.grid rank) || all_below (group_count d) (λ group. is_words (mem (slot_at Data (slot_of from).id group)) && not (same_slot to (slot_at Data (slot_of from).id group)))
-has_strips s rank mem _ = true
+    not (is_data_rank d.grid rank) || all_below (group_count d) (λ group. is_strip_of d (row_of d.grid rank) (mem (slot_at Data (slot_of from).id group)) && not (same_slot to (slot_at Data (slot_of from).id group)))
+has_strips s rank mem (k.Zero to rows columns) = true
+has_strips s rank mem (k.Copy to from) = true
+has_strips s rank mem (k.Scale to a) = true
+has_strips s rank mem (k.Add to a from cut) = true
+has_strips s rank mem (k.MulAdd to a left right) = true
+has_strips s rank mem (k.Lower to block unit) = true
+has_strips s rank mem (k.Upper to block unit) = true
+has_strips s rank mem (k.Swap to i j) = true
+has_strips s rank mem (k.First to from j above) = true
+has_strips s rank mem (k.Least to from) = true
+has_strips s rank mem (k.Elim to j above row) = true
+has_strips s rank mem (k.Push to from above) = true
+has_strips s rank mem (k.Trans to from) = true
 
 -- ---- factors
 abbrev pub factor_of : Kernel → Option ℕ
 factor_of (k.Scale to a) = Some a
 factor_of (k.Add to a from cut) = Some a
 factor_of (k.MulAdd to a left right) = Some a
-factor_of _ = None
+factor_of (k.Zero to rows columns) = None
+factor_of (k.Copy to from) = None
+factor_of (k.Lower to block unit) = None
+factor_of (k.Upper to block unit) = None
+factor_of (k.Swap to i j) = None
+factor_of (k.First to from j above) = None
+factor_of (k.Diag to from n) = None
+factor_of (k.Least to from) = None
+factor_of (k.Elim to j above row) = None
+factor_of (k.Push to from above) = None
+factor_of (k.Trans to from) = None
 
 abbrev pub is_among : List ℕ → ℕ → Bool
 is_among [] a = false
@@ -178,9 +235,9 @@ is_weight s g a = some_below g.f (λ c. some_below g.q (λ col. (a == weight s.i
 abbrev pub is_plain_factor : Setting → State → ℕ → ℕ → Bool
 is_plain_factor s st rank a = ((a == 1) || (a == s.modulus - 1)) || (is_among (job s (current s st.mark)).scalars a || is_weight s (grid_of_rank s rank) a)
 
--- which columns of a rank's process row count as lost
+-- which columns of a process row count as lost
 abbrev pub lost_columns : State → Grid → ℕ → List Bool
-lost_columns st g rank = map (λ col. st.lost (rank_at g (row_of g rank) col)) (range_with_len 0 (width g))
+lost_columns st g row = map (λ col. st.lost (rank_at g row col)) (range_with_len 0 (width g))
 
 -- an entry of the list that decodes a lost data column of these
 pub record IsDecodingEntry (s : Setting) (g : Grid) (lost : List Bool) (a : ℕ) : Type 0 where
@@ -192,7 +249,7 @@ pub record IsDecodingEntry (s : Setting) (g : Grid) (lost : List Bool) (a : ℕ)
   pub entry : Contains list a
 
 abbrev pub IsFactor : Setting → State → ℕ → ℕ → Type 0
-IsFactor s st rank a = IsTrue (is_plain_factor s st rank a) ⊎ IsDecodingEntry s (grid_of_rank s rank) (lost_columns st (grid_of_rank s rank) rank) a
+IsFactor s st rank a = IsTrue (is_plain_factor s st rank a) ⊎ IsDecodingEntry s (grid_of_rank s rank) (lost_columns st (grid_of_rank s rank) (row_of (grid_of_rank s rank) rank)) a
 
 abbrev pub FactorOf : Setting → State → ℕ → Option ℕ → Type 0
 FactorOf s st rank None = Unit {0}
@@ -202,9 +259,11 @@ FactorOf s st rank (Some a) = IsFactor s st rank a
 -- the host learns row numbers, and in a print line the strips of its matrix
 abbrev pub may_take : Setting → State → ℕ → Slot → SlotKind → Bool
 may_take s st rank slot Data = nat_lt 0 slot.id && ((job s (current s st.mark)).prints == slot.id)
-may_take s st rank slot Pivots = true
+may_take s st rank slot Pivots = is_index (st.tiles rank slot)
 may_take s st rank slot Work = is_index (st.tiles rank slot)
-may_take s st rank slot _ = false
+may_take s st rank slot Code = false
+may_take s st rank slot Low = false
+may_take s st rank slot Open = false
 
 abbrev pub some_lost : Setting → State → Bool
 some_lost s st = some_below (ranks s) st.lost
@@ -281,9 +340,15 @@ pub record IsTake (s : Setting) (st : State) (rank : ℕ) (slot : Slot) : Type 0
   pub held : IsTrue (is_some (st.tiles rank slot))
   pub allowed : IsTrue (may_take s st rank slot slot.kind)
 
+-- a spare is left to take the place of a lost rank
+abbrev pub has_spare : Option ℕ → State → Bool
+has_spare None st = true
+has_spare (Some n) st = nat_lt st.spawned n
+
 pub record IsSpawn (s : Setting) (st : State) (rank : ℕ) : Type 0 where
   pub there : IsTrue (nat_lt rank (ranks s))
   pub gone : IsTrue (not (st.live rank))
+  pub spare : IsTrue (has_spare s.spares st)
 
 -- a plain mark follows the last one; a healed one repeats it
 abbrev pub IsNext : Setting → State → Mark → Bool → Type 0

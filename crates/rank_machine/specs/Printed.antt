@@ -33,7 +33,7 @@ tile_of taken line what d i j =
 pub record IsPrinted (s : Setting) (taken : List Took) (line what : ℕ) (m : Matrix) : Type 0 where
   pub rows : m.rows ≡ (layout s what).desc.m
   pub columns : cols m ≡ (layout s what).desc.n
-  pub entries : (i j : ℕ) → i < m.rows → j < cols m → (t : Matrix) × (tile_of taken line what (layout s what) i j ≡ Some (Words t)) × (entry m i j ≡ entry t (local i (layout s what).desc.mb (layout s what).grid.p) (j % (layout s what).desc.nb))
+  pub entries : (i j : ℕ) → i < m.rows → j < cols m → (t : Matrix) × (tile_of taken line what (layout s what) i j ≡ Some (Words t)) × (local i (layout s what).desc.mb (layout s what).grid.p < t.rows) × (j % (layout s what).desc.nb < cols t) × (entry m i j ≡ entry t (local i (layout s what).desc.mb (layout s what).grid.p) (j % (layout s what).desc.nb))
 
 -- the list that a pivots line gives of a list
 abbrev pub AreNumbers : List Took → ℕ → ℕ → List ℕ → Type 0

@@ -1,17 +1,17 @@
 -- The setting of an accepted script and its files.
-use Rattle.std.specs.Prelude.{ℕ, ◌+◌, ◌*◌, Bool, ◌||◌, if◌then◌else◌, nat_lt, Option, Some, None, unwrap_or, List, [], ◌∷◌, ◌++◌, slice_index_or}
+use Rattle.std.specs.Prelude.{ℕ, ◌+◌, ◌*◌, Bool, ◌||◌, if◌then◌else◌, nat_lt, Option, Some, unwrap_or, List, [], ◌∷◌, ◌++◌, slice_index_or}
 use Rattle.std.specs.Str.{bytes_eq}
 use Rattle.std.specs.Ordering.{nat_cmp}
 use Rattle.std.specs.FinMap as map
 use Rattle.field_core.specs.Residue.{inverse}
 use Rattle.run_data.specs.Matrix.{Matrix, zero_matrix}
-use Rattle.run_data.specs.Script.{Numbered, commands_of, makes_records, operand}
+use Rattle.run_data.specs.Script.{Numbered, commands_of, makes_records, operand, spares_of}
 use Rattle.run_data.specs.declared.command.Command.{Command}
 use Rattle.run_data.specs.declared.command.Command.TheVariants as c
 use Rattle.array_desc.specs.Descriptors.{desc_of}
 use Rattle.blacs_grid.specs.declared.Grid.{Grid}
 use Rattle.rank_machine.specs.declared.record.Loss.{Loss}
-use Rattle.rank_machine.specs.Setting.{Setting, Layout, Job, Path, anywhere, forwards, backwards, members, no_job, no_grid}
+use Rattle.rank_machine.specs.Setting.{Setting, Layout, Job, Path, forwards, backwards, members, no_job, no_grid}
 
 -- ---- grids: their ranks follow those of the grids before
 abbrev pub grid_made : Command → ℕ → List Grid
@@ -79,7 +79,15 @@ job_of ns grids line (c.Ptrsm side uplo transa diag m n alpha a ia ja b ib jb) =
 job_of ns grids line (c.Pgetrf m n a ia ja v) = record (no_job line) { factors = line_meant ns line 3 }
 job_of ns grids line (c.Discard name) = record (no_job line) { drops = line_meant ns line 1 }
 job_of ns grids line (c.Print name) = record (no_job line) { prints = line_meant ns line 1 }
-job_of ns grids line _ = no_job line
+job_of ns grids line (c.Grid name p q f) = no_job line
+job_of ns grids line (c.Pgetrs trans n nrhs a ia ja v b ib jb) = no_job line
+job_of ns grids line (c.Pgemr2d m n a ia ja b ib jb ctxt) = no_job line
+job_of ns grids line (c.Pivots name) = no_job line
+job_of ns grids line (c.Topology kind) = no_job line
+job_of ns grids line (c.Links n) = no_job line
+job_of ns grids line (c.Order numbers) = no_job line
+job_of ns grids line (c.Lose at rank) = no_job line
+job_of ns grids line (c.Spares n) = no_job line
 
 abbrev pub jobs_from : List Numbered → List Grid → List Numbered → List Job
 jobs_from ns grids [] = []
@@ -95,6 +103,7 @@ setting_over p inverses ns files = let grids = grids_from 0 ns in record {
   jobs = jobs_from ns grids ns;
   capacity = capacity_from 1 ns;
   losses = losses_in ns;
+  spares = spares_of ns;
   files = files;
 }
 

@@ -1,13 +1,6 @@
 -- What a journal is judged by: the field, the grids, the losses, the matrices of the files, and what each line of the script asks of the machine, its names resolved.
-use Rattle.std.specs.Prelude.{ℕ, zero, suc, ◌+◌, ◌-◌, ◌*◌, ◌/◌, ◌%◌, Bool, true, false, ◌&&◌, ◌||◌, if◌then◌else◌, ◌==◌, nat_lt, nat_le, min, Option, Some, None, is_some, unwrap_or, List, [], ◌∷◌, ◌++◌, slice_index_or}
-use Rattle.std.specs.Str.{bytes_eq}
-use Rattle.std.specs.Ordering.{nat_cmp}
-use Rattle.std.specs.FinMap as map
-use Rattle.field_core.specs.Residue.{inverse}
-use Rattle.run_data.specs.Matrix.{Matrix, entry, tabulate, zero_matrix}
-use Rattle.run_data.specs.Script.{Numbered, commands_of, makes_records, operand}
-use Rattle.run_data.specs.declared.command.Command.{Command}
-use Rattle.run_data.specs.declared.command.Command.TheVariants as c
+use Rattle.std.specs.Prelude.{ℕ, zero, suc, ◌+◌, ◌*◌, Bool, true, false, ◌&&◌, ◌||◌, if◌then◌else◌, ◌==◌, nat_lt, min, Option, None, is_some, unwrap_or, List, [], ◌∷◌, slice_index_or}
+use Rattle.run_data.specs.Matrix.{Matrix, entry, tabulate}
 use Rattle.array_desc.specs.declared.Desc.{Desc}
 use Rattle.array_desc.specs.Descriptors.{desc_of}
 use Rattle.array_desc.specs.Maps.{global, numroc, ceil_div, groups, block_in}
@@ -54,6 +47,8 @@ pub record Setting : Type 0 where
   pub capacity : ℕ
   -- the losses that the script asks for, in script order
   pub losses : List Loss
+  -- how many lost ranks can be replaced, or None where there is no limit
+  pub spares : Option ℕ
   -- the matrix of the file of each matrix line
   pub files : ℕ → Matrix
 

@@ -37,6 +37,8 @@ pub record State : Type 0 where
   pub links : ℕ → ℕ → List Tile
   pub mark : Mark
   pub lost : ℕ → Bool
+  -- how many ranks were spawned since the opening
+  pub spawned : ℕ
   pub taken : List Took
   pub committed : List Took
 
@@ -57,6 +59,7 @@ opened s = record {
   links = λ _ _. [];
   mark = first_mark;
   lost = λ _. false;
+  spawned = 0;
   taken = [];
   committed = [];
 }

@@ -1,6 +1,6 @@
 -- The same conditions as one computed answer: what a checker runs.
 use Rattle.std.specs.Prelude.{◌+◌, ◌*◌, ◌%◌, ◌&&◌, ◌||◌, ◌==◌, ◌∷◌, if◌then◌else◌, ℕ, suc, Bool, true, false, not, Option, Some, None, is_some, List, length, slice_index_or, nat_lt, nat_le, min, []}
-use Rattle.blacs_grid.specs.Places.{width, rank_at, is_data_rank}
+use Rattle.blacs_grid.specs.Places.{width, row_of, rank_at, is_data_rank}
 use Rattle.rank_machine.specs.declared.slot.SlotKind.TheVariants.{Data, Code, Low, Open, Pivots}
 use Rattle.rank_machine.specs.declared.mark.Mark.{Mark}
 use Rattle.rank_machine.specs.declared.record.Rec.{Rec}
@@ -10,7 +10,7 @@ use Rattle.rank_machine.specs.State.{same_kind, State, opened}
 use Rattle.rank_machine.specs.Effect.{numbers_of, is_index, slot_of, target, has_ended, current, is_live_matrix, is_live_list, after}
 use Rattle.rank_machine.specs.CodeLaw.{slot_at, has_low, has_open, is_open_group, data_word, code_word, symbol, weighted_sum, is_multiplier, is_open_column, is_strip_of, pivots_of}
 use Rattle.rank_machine.specs.Marks.{same_bool, has_numbers, follows}
-use Rattle.rank_machine.specs.Legal.{may_write, may_change, holds, reads, makes, is_apart, is_held, is_shaped, has_divisors, is_placed, has_strips, factor_of, is_among, is_plain_factor, lost_columns, may_take, some_lost, is_path, fits}
+use Rattle.rank_machine.specs.Legal.{may_write, may_change, holds, reads, makes, is_apart, is_held, is_shaped, has_divisors, is_placed, has_strips, factor_of, is_among, is_plain_factor, lost_columns, may_take, some_lost, is_path, fits, has_spare}
 
 -- a test of each place of a group of a process row
 abbrev pub each_place : Layout → ℕ → (ℕ → ℕ → Bool) → Bool
@@ -87,7 +87,7 @@ is_known (t ∷ ts) q lost a = ((((t.q == q) && same_bools t.lost lost) && nat_l
 
 abbrev pub factor_test : Setting → List Known → State → ℕ → Option ℕ → Bool
 factor_test s known st rank None = true
-factor_test s known st rank (Some a) = let g = grid_of_rank s rank in is_plain_factor s st rank a || is_known known g.q (lost_columns st g rank) a
+factor_test s known st rank (Some a) = let g = grid_of_rank s rank in is_plain_factor s st rank a || is_known known g.q (lost_columns st g (row_of g rank)) a
 
 abbrev pub same_mark : Mark → Mark → Bool
 same_mark a b = ((a.line == b.line) && same_bool a.ended b.ended) && has_numbers a b.closed b.opened b.merged
@@ -108,7 +108,7 @@ rec_test s known st (r.Recv to from x) = st.live to && fits st to x (st.links fr
 rec_test s known st (r.Save rank slot) = st.live rank && (is_some (st.tiles rank slot) && (not (st.fresh rank slot) && not (is_some (st.saved rank slot))))
 rec_test s known st (r.Take rank slot) = st.live rank && (is_some (st.tiles rank slot) && may_take s st rank slot slot.kind)
 rec_test s known st r.Restore = true
-rec_test s known st (r.Spawn rank) = nat_lt rank (ranks s) && not (st.live rank)
+rec_test s known st (r.Spawn rank) = nat_lt rank (ranks s) && (not (st.live rank) && has_spare s.spares st)
 rec_test s known st (r.Commit mark healed) =
     all_below (ranks s) st.live && (all_below (ranks s) (λ a. all_below (ranks s) (λ b. length (st.links a b) == 0))
     && (same_bool (some_lost s st) healed && (next_test s st mark healed && law_test s st mark)))

@@ -39,4 +39,6 @@ pub enum Kernel {
     Elim(Slot, u32, u32, Piece),
     /// The piece's number goes last in the slot's list.
     Push(Slot, Piece, u32),
+    /// The slot becomes the transpose of the piece's words.
+    Trans(Slot, Piece),
 }

@@ -16,12 +16,13 @@ use Rattle.rank_machine.specs.declared.kernel.Kernel.TheVariants as k
 use Rattle.rank_machine.specs.Setting.{Setting, layout, global_row}
 use Rattle.rank_machine.specs.State.{same_slot}
 use Rattle.rank_machine.specs.Effect.{words_of, numbers_of, number_of, is_words, is_index, is_whole, with_piece, cut_out, pushed, slot_of, area, matrix_in, area_in, target, reaches, made_by}
-use Rattle.rank_machine.specs.Legal.{is_inside, holds_words, is_number, same_area, is_square, is_apart, is_cut_placed, in_matrix, height, breadth}
+use Rattle.rank_machine.specs.Legal.{is_inside, holds_words, is_number, same_area, is_square, is_apart, height, breadth}
 use Rattle.rank_machine.proofs.Base.{same_slot-true}
 use Rattle.rank_slots.specs.Cells.{with_slot}
 use Rattle.rank_slots.specs.Rank.{IsFit, changes_words}
 use Rattle.rank_slots.specs.Shapes.{from_corner, has_nonzero_diagonal}
 use Rattle.rank_slots.proofs.CellLaws.{same_slot-refl}
+use Rattle.rank_memory.specs.Fits.{OneFit, PairFit, AddFit, ProductFit, SolveFit, ElimFit, LeastFit, PushFit}
 
 pub same_slot-false : (a b : Slot) → same_slot a b ≡ false → same_slot b a ≡ false
 same_slot-false a b h = false_from_ne_true (same_slot b a) (λ e. true≢false (sym (subst (λ n. same_slot n b ≡ true) (same_slot-true b a e) (same_slot-refl b)) ∙ h))
@@ -53,10 +54,6 @@ same_held : (x : Piece) (a b : Option Tile) → a ≡ b → holds_words (λ _. a
 same_held x a b e h = sym (ap (λ o. holds_words (λ _. o) x) e) ∙ h
 
 -- ---- one tile
-pub record OneFit (p : ℕ) (m : Matrix) (to : Piece) (a : ℕ) : Type 0 where
-  pub inside : is_inside (area to m) m ≡ true
-  pub factor : a < p
-
 pub scale_fit : (p : ℕ) (s : Setting) (rank : ℕ) (holding : Slot → Option Tile) (m : Matrix) (to : Piece) (a : ℕ) → IsFit p s rank (with_slot holding (slot_of to) (Words m)) (k.Scale to a) → OneFit p m to a
 scale_fit p s rank holding m to a h = record {
   inside = same_held to _ _ (here holding (slot_of to) (Words m)) h.held;
@@ -70,12 +67,6 @@ scale_made s rank holding m to a =
     λ n. Words (with_scaled s.modulus (words_of (e n)) (area to (words_of (e n))) a)
 
 -- ---- a tile and what one other piece holds
--- the piece is held, lies in its tile, and so does the one that is changed
-pub record PairFit (holding : Slot → Option Tile) (m : Matrix) (to from : Piece) : Type 0 where
-  pub from_held : holds_words holding from ≡ true
-  pub inside : is_inside (area to m) m ≡ true
-  pub from_inside : is_inside (area_in holding from) (matrix_in holding from) ≡ true
-
 pub to_here : (holding : Slot → Option Tile) (m : Matrix) (to : Piece) → with_slot holding (slot_of to) (Words m) (slot_of to) ≡ Some (Words m)
 to_here holding m to = here holding (slot_of to) (Words m)
 
@@ -104,12 +95,6 @@ copy_fit p s rank holding m slot at from h =
     (pair_fit holding m (piece.Part slot at) from [] h.apart h.held, sym (λ n. same_area at (area from (words_of (e n)))) ∙ h.shaped)
 
 -- ---- additions
-pub record AddFit (p : ℕ) (s : Setting) (rank : ℕ) (holding : Slot → Option Tile) (m : Matrix) (to : Piece) (a : ℕ) (from : Piece) (cut : Cut) : Type 0 where
-  pub pair : PairFit holding m to from
-  pub shape : same_area (area to m) (area_in holding from) ≡ true
-  pub placed : is_cut_placed s rank (slot_of to) cut ≡ true
-  pub factor : a < p
-
 pub add_fit : (p : ℕ) (s : Setting) (rank : ℕ) (holding : Slot → Option Tile) (m : Matrix) (to : Piece) (a : ℕ) (from : Piece) (cut : Cut)
     → IsFit p s rank (with_slot holding (slot_of to) (Words m)) (k.Add to a from cut) → AddFit p s rank holding m to a from cut
 add_fit p s rank holding m to a from cut h =
@@ -130,13 +115,6 @@ add_made s rank holding m to a from cut apart =
     λ n. Words (with_added s.modulus (words_of (e n)) (area to (words_of (e n))) a (words_of (f n)) (area from (words_of (f n))) (reaches s rank (slot_of to) cut))
 
 -- ---- products
-pub record ProductFit (p : ℕ) (holding : Slot → Option Tile) (m : Matrix) (to : Piece) (a : ℕ) (left right : Piece) : Type 0 where
-  pub pair : PairFit holding m to left
-  pub right_held : holds_words holding right ≡ true
-  pub right_inside : is_inside (area_in holding right) (matrix_in holding right) ≡ true
-  pub shape : ((height (area to m) == height (area_in holding left)) && ((breadth (area_in holding left) == height (area_in holding right)) && (breadth (area to m) == breadth (area_in holding right)))) ≡ true
-  pub factor : a < p
-
 right_there : (holding : Slot → Option Tile) (m : Matrix) (slot : Slot) (left right : Piece) → is_apart slot (left ∷ right ∷ []) ≡ true → with_slot holding slot (Words m) (slot_of right) ≡ holding (slot_of right)
 right_there holding m slot left right h = from_there holding m slot right [] (later_apart slot left (right ∷ []) h)
 
@@ -166,11 +144,6 @@ product_made s rank holding m to a left right apart =
     λ n. Words (with_product s.modulus (words_of (e n)) (area to (words_of (e n))) a (words_of (f n)) (area left (words_of (f n))) (words_of (g n)) (area right (words_of (g n))))
 
 -- ---- solves
-pub record SolveFit (holding : Slot → Option Tile) (m : Matrix) (to block : Piece) (unit : Bool) : Type 0 where
-  pub pair : PairFit holding m to block
-  pub shape : is_square (area_in holding block) (area to m) ≡ true
-  pub divisors : has_nonzero_diagonal (matrix_in holding block) (area_in holding block) unit ≡ true
-
 solve_fit : (holding : Slot → Option Tile) (m : Matrix) (to block : Piece) (unit : Bool) → is_apart (slot_of to) (block ∷ []) ≡ true
     → (holds_words (with_slot holding (slot_of to) (Words m)) to && holds_words (with_slot holding (slot_of to) (Words m)) block) ≡ true
     → is_square (area_in (with_slot holding (slot_of to) (Words m)) block) (area_in (with_slot holding (slot_of to) (Words m)) to) ≡ true
@@ -217,13 +190,6 @@ pub swap_made : (s : Setting) (rank : ℕ) (holding : Slot → Option Tile) (m :
 swap_made s rank holding m to i j = let e = here holding to (Words m) in λ n. Words (with_rows_swapped (words_of (e n)) i j)
 
 -- ---- eliminations
-pub record ElimFit (s : Setting) (rank : ℕ) (holding : Slot → Option Tile) (m : Matrix) (to : Slot) (j : ℕ) (row : Piece) : Type 0 where
-  pub row_held : holds_words holding row ≡ true
-  pub row_inside : is_inside (area_in holding row) (matrix_in holding row) ≡ true
-  pub shape : (((height (area_in holding row) == 1) && (breadth (area_in holding row) == cols m)) && nat_lt j (cols m)) ≡ true
-  pub pivot : not (entry (matrix_in holding row) (area_in holding row).r0 ((area_in holding row).c0 + j) == 0) ≡ true
-  pub placed : in_matrix s rank to ≡ true
-
 pub elim_fit : (p : ℕ) (s : Setting) (rank : ℕ) (holding : Slot → Option Tile) (m : Matrix) (to : Slot) (j above : ℕ) (row : Piece)
     → IsFit p s rank (with_slot holding to (Words m)) (k.Elim to j above row) → ElimFit s rank holding m to j row
 elim_fit p s rank holding m to j above row h =
@@ -251,10 +217,6 @@ elim_made s rank holding m to j above row apart =
 number_there : (holding : Slot → Option Tile) (slot : Slot) (t : Tile) (from : Piece) → is_apart slot (from ∷ []) ≡ true → with_slot holding slot t (slot_of from) ≡ holding (slot_of from)
 number_there holding slot t from h = elsewhere holding slot t (slot_of from) (first_apart slot from [] h)
 
-pub record LeastFit (holding : Slot → Option Tile) (t : Tile) (from : Piece) : Type 0 where
-  pub number : is_number (Some t) ≡ true
-  pub from_number : is_number (holding (slot_of from)) ≡ true
-
 pub least_fit : (p : ℕ) (s : Setting) (rank : ℕ) (holding : Slot → Option Tile) (t : Tile) (to : Slot) (from : Piece) → IsFit p s rank (with_slot holding to t) (k.Least to from) → LeastFit holding t from
 least_fit p s rank holding t to from h =
     let with_it = with_slot holding to t in
@@ -270,10 +232,6 @@ least_made s rank holding t to from apart =
     let e = here holding to t in
     let f = number_there holding to t from apart in
     λ n. Index (min (number_of (e n)) (number_of (f n)) ∷ [])
-
-pub record PushFit (holding : Slot → Option Tile) (t : Tile) (from : Piece) : Type 0 where
-  pub index : is_index (Some t) ≡ true
-  pub from_number : is_number (holding (slot_of from)) ≡ true
 
 pub push_fit : (p : ℕ) (s : Setting) (rank : ℕ) (holding : Slot → Option Tile) (t : Tile) (to : Slot) (from : Piece) (above : ℕ) → IsFit p s rank (with_slot holding to t) (k.Push to from above) → PushFit holding t from
 push_fit p s rank holding t to from above h =

@@ -1,4 +1,4 @@
 pub mod Changes
-pub mod Examples
 pub mod RowLaws
 pub mod TakenOut
+pub mod Transposes

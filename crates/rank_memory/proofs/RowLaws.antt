@@ -1,16 +1,20 @@
 -- Which rows a kernel reaches.
-use Rattle.std.proofs.Common.{◌≡◌, ◌+◌, ◌-◌, ◌*◌, ◌%◌, ◌<◌, ◌≤◌, ◌==◌, ◌&&◌, ℕ, Bool, true, false, nat_lt, nat_le, sym, ◌∙◌, arith, ⊎_elim}
+use Rattle.std.proofs.Common.{◌≡◌, ◌+◌, ◌-◌, ◌*◌, ◌%◌, ◌<◌, ◌≤◌, ◌==◌, ◌&&◌, ℕ, Bool, true, false, nat_lt, nat_le, sym, ap, subst, ◌∙◌, arith, ⊎_elim}
 use Rattle.std.specs.Prelude.{if◌then◌else◌}
+use Rattle.std.proofs.lemmas.Nat.{mod_below}
 use Rattle.std.proofs.lemmas.Bool.{cases_lt, lt-ltb, le-ltb, lt-leb, le-leb, eq-eqb}
 use Rattle.run_data.specs.declared.matrix.Part.{Part}
-use Rattle.run_data.specs.Matrix.{Matrix, cols, entry, IsShaped, zero_matrix}
-use Rattle.run_data.specs.Parts.{part_entry}
-use Rattle.run_data.proofs.Matrices.{tabulate-same, cols-tabulate, entry-past, entry-past_columns}
+use Rattle.std.proofs.lemmas.Bool.Decides.{nat_tests}
+use Rattle.run_data.specs.Matrix.{Matrix, cols, entry, IsShaped, tabulate, zero_matrix}
+use Rattle.run_data.specs.Parts.{IsWithin, part_entry, patched, with_part}
+use Rattle.run_data.proofs.Matrices.{tabulate-same, cols-tabulate, entry-tabulate, entry-past, entry-past_columns}
+use Rattle.run_data.proofs.Fills.{filled, is_passed_down, with_filled, rows-with_done, cols-with_done}
 use Rattle.local_blas.specs.Kernels.{multiplier, with_eliminated}
 use Rattle.array_desc.specs.Maps.{global, numroc}
 use Rattle.array_desc.proofs.CountLaws.{global-lt, local-lt_from_global}
 use Rattle.rank_machine.specs.Setting.{Layout, global_row, global_col}
 use Rattle.rank_slots.specs.Shapes.{is_in_triangle}
+use Rattle.rank_memory.specs.Places.{column_in}
 
 -- global rows rise with local ones
 pub global-rises : (k l nb proc src procs : ℕ) → 0 < nb → src < procs → proc < procs → k ≤ l → global k nb proc src procs ≤ global l nb proc src procs
@@ -52,6 +56,50 @@ is_reached d rank upper block i j e rows limit r0 c0 is lt r c below above =
 -- a word that gains a multiple of another where a test holds
 pub gains_where : (p x x' a y y' new : ℕ) (b b' : Bool) → new ≡ (if b then (x + a * y) % p else x) → b ≡ b' → x ≡ x' → y ≡ y' → new ≡ (if b' then (x' + a * y') % p else x')
 gains_where p x x' a y y' new b b' e t u v = e ∙ (λ n. if t n then (u n + a * v n) % p else u n)
+
+pub below_if : (p x y : ℕ) (b : Bool) → x < p → (if b then y % p else x) < p
+below_if p x y true h = mod_below y p (omega (arith, h))
+below_if p x y false h = h
+
+-- a column of a part lies where the part does
+pub column_within : (at : Part) (a : Matrix) (j : ℕ) → IsWithin at a → j < at.c1 → IsWithin (column_in at j) a
+column_within at a j within h = record { rows_ordered = within.rows_ordered; rows_end = within.rows_end; columns_ordered = omega arith; columns_end = omega (arith, h, within.columns_end) }
+
+-- a part lies in a matrix that is being filled
+pub filled_within : (a : Matrix) (at : Part) (f : ℕ → ℕ → ℕ) (i j : ℕ) → IsWithin at a → IsWithin at (with_filled a at f i j)
+filled_within a at f i j within = record {
+  rows_ordered = within.rows_ordered;
+  rows_end = subst (λ n. at.r1 ≤ n) (sym (rows-with_done a at (is_passed_down i j) f)) within.rows_end;
+  columns_ordered = within.columns_ordered;
+  columns_end = subst (λ n. at.c1 ≤ n) (sym (cols-with_done a at (is_passed_down i j) f)) within.columns_end;
+}
+
+-- a word of a column that is not filled yet
+not_passed : (at : Part) (f h : ℕ → ℕ → ℕ) (r c : ℕ) → at.r0 ≤ r → filled at (is_passed_down at.r0 c) f h r c ≡ h r c
+unfolding filled
+not_passed at f h r c low = grind (arith, nat_tests)
+
+pub column_left : (a : Matrix) (at : Part) (f : ℕ → ℕ → ℕ) (r c : ℕ) → IsWithin at a → at.r0 ≤ r → r < at.r1 → c < at.c1 → entry (with_filled a at f at.r0 c) r c ≡ entry a r c
+column_left a at f r c within low high last =
+    entry-tabulate a.rows (cols a) (filled at (is_passed_down at.r0 c) f (entry a)) r c (omega (arith, high, within.rows_end)) (omega (arith, last, within.columns_end)) ∙ not_passed at f (entry a) r c low
+
+-- a word, where one column more is filled
+one_column : (at : Part) (f g h k : ℕ → ℕ → ℕ) (j r c : ℕ) → at.c0 ≤ j → j < at.c1 → k r c ≡ filled at (is_passed_down at.r0 j) f h r c → (at.r0 ≤ r → r < at.r1 → c ≡ j → g r c ≡ f r c)
+    → patched (column_in at j) g k r c ≡ filled at (is_passed_down at.r0 (j + 1)) f h r c
+unfolding patched filled
+one_column at f g h k j r c low high e same = grind (arith, nat_tests)
+
+pub column_filled : (a b b' : Matrix) (at : Part) (f g : ℕ → ℕ → ℕ) (j : ℕ) → b ≡ with_filled a at f at.r0 j → b' ≡ with_part b (column_in at j) g → IsWithin at a → at.c0 ≤ j → j < at.c1
+    → ((r : ℕ) → at.r0 ≤ r → r < at.r1 → g r j ≡ f r j) → b' ≡ with_filled a at f at.r0 (j + 1)
+column_filled a b b' at f g j is e within low high same =
+    let w : Matrix = with_filled a at f at.r0 j in
+    e
+    ∙ ap (λ m. with_part m (column_in at j) g) is
+    ∙ ap (λ k. tabulate k (cols w) (patched (column_in at j) g (entry w))) (rows-with_done a at (is_passed_down at.r0 j) f)
+    ∙ ap (λ k. tabulate a.rows k (patched (column_in at j) g (entry w))) (cols-with_done a at (is_passed_down at.r0 j) f)
+    ∙ tabulate-same a.rows (cols a) (patched (column_in at j) g (entry w)) (filled at (is_passed_down at.r0 (j + 1)) f (entry a))
+    (λ r c x y. one_column at f g (entry a) (entry w) j r c low high (entry-tabulate a.rows (cols a) (filled at (is_passed_down at.r0 j) f (entry a)) r c x y)
+    (λ u v z. subst (λ n. g r n ≡ f r n) (sym z) (same r u v)))
 
 -- the same rows below, and the same pivot row
 pub with_eliminated-same : (p : ℕ) (inverse : ℕ → ℕ) (a : Matrix) (f g : ℕ → Bool) (j : ℕ) (row : Matrix) (rp : Part) (row' : Matrix) (rp' : Part) → j < cols a

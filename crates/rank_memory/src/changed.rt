@@ -6,14 +6,14 @@ ghost use Rattle.rank_machine.specs.Legal.{is_number, makes};
 ghost use Rattle.script_lines.specs.Lines.{setting_on, AreSound};
 ghost use Rattle.rank_slots.specs.Cells.{tiles_in, with_slot, IsMatrixOf, IsTileOf, AreCellsOf};
 ghost use Rattle.rank_slots.specs.Rank.{IsFit, changes_words};
+ghost use Rattle.rank_memory.specs.Fits.{LeastFit, PushFit};
 
-use crate::made::{number_in, single, words_at};
-use crate::pieces::area_of;
-use crate::search::NONE;
-use crate::words::{
-    add_words, copy_words, eliminate_words, multiply_words, scale_words, solve_words_lower,
-    solve_words_upper,
+use crate::made::{number_in, single};
+use crate::reads::{
+    add_from, copy_from, eliminate_from, multiply_from, solve_lower_from, solve_upper_from,
 };
+use crate::search::NONE;
+use crate::words::scale_words;
 use field_core::Field;
 use local_blas::swap_rows;
 use rank_machine::{Kernel, Piece, Tile};
@@ -39,33 +39,19 @@ pub fn change_words<K: Field>(
     ensures { OnOk result (Words dst.new ≡ made_by (setting_on K.MODULUS table.now) rank (with_slot (tiles_in cells.now) (slot_of (target kernel.now)) (Words dst.old)) kernel.now) }
 {
     match *kernel {
-        Kernel::Copy(to, from) => {
-            let at = area_of(to, dst);
-            let m = words_at(cells, from);
-            Ok(copy_words(dst, at, m, from))
-        }
+        Kernel::Copy(to, from) => Ok(copy_from(cells, dst, to, from)),
         Kernel::Scale(to, a) => Ok(scale_words::<K>(dst, to, a)),
         Kernel::Add(to, a, from, cut) => {
-            let m = words_at(cells, from);
-            Ok(add_words::<K>(table, rank, dst, to, a, m, from, cut))
+            Ok(add_from::<K>(table, rank, cells, dst, to, a, from, cut))
         }
         Kernel::MulAdd(to, a, left, right) => {
-            let x = words_at(cells, left);
-            let y = words_at(cells, right);
-            Ok(multiply_words::<K>(dst, to, a, x, left, y, right))
+            Ok(multiply_from::<K>(cells, dst, to, a, left, right))
         }
-        Kernel::Lower(to, block, unit) => {
-            let m = words_at(cells, block);
-            Ok(solve_words_lower::<K>(dst, to, m, block, unit))
-        }
-        Kernel::Upper(to, block, unit) => {
-            let m = words_at(cells, block);
-            Ok(solve_words_upper::<K>(dst, to, m, block, unit))
-        }
+        Kernel::Lower(to, block, unit) => { Ok(solve_lower_from::<K>(cells, dst, to, block, unit)) }
+        Kernel::Upper(to, block, unit) => { Ok(solve_upper_from::<K>(cells, dst, to, block, unit)) }
         Kernel::Swap(_, i, j) => Ok(swap_rows(dst, i, j)),
         Kernel::Elim(to, j, above, row) => {
-            let m = words_at(cells, row);
-            eliminate_words::<K>(alloc, table, rank, dst, to, j, above, m, row)
+            eliminate_from::<K>(alloc, table, rank, cells, dst, to, j, above, row)
         }
         _ => unreachable!(),
     }
@@ -121,6 +107,22 @@ pub fn tile_at(cells: &Cells, x: Piece) -> &Tile
     }
 }
 
+// The smaller number of a tile and of another slot, as a tile.
+fn least_from(alloc: Global, cells: &Cells, tile: &Tile, from: Piece) -> Result<Tile, AllocError>
+    requires { LeastFit (tiles_in cells.now) tile.now from }
+    ensures { IfOk result (λ t. t ≡ Index (min (number_of (Some tile.now)) (number_of (tiles_in cells.now (slot_of from))) ∷ [])) }
+{
+    least_of_two(alloc, tile, tile_at(cells, from))
+}
+
+// A list of numbers with the number of another slot, or with a row where that means none.
+fn push_from(cells: &Cells, tile: Tile, from: Piece, above: u32) -> Result<Tile, AllocError>
+    requires { PushFit (tiles_in cells.now) tile from }
+    ensures { IfOk result (λ t. t ≡ Index (numbers_of (Some tile) ++ pushed (number_of (tiles_in cells.now (slot_of from))) above ∷ [])) }
+{
+    push_to(tile, tile_at(cells, from), above)
+}
+
 /// Whether a kernel changes words.
 pub fn is_for_words(kernel: &Kernel) -> bool
     ensures { result ≡ changes_words kernel.now }
@@ -132,6 +134,7 @@ pub fn is_for_words(kernel: &Kernel) -> bool
         Kernel::Diag(_, _, _) => false,
         Kernel::Least(_, _) => false,
         Kernel::Push(_, _, _) => false,
+        Kernel::Trans(_, _) => false,
         _ => true,
     }
 }
@@ -151,8 +154,8 @@ fn change_numbers<K: Field>(
     ensures { IfOk result (λ t. t ≡ made_by (setting_on K.MODULUS table.now) rank (with_slot (tiles_in cells.now) (slot_of (target kernel.now)) tile) kernel.now) }
 {
     match *kernel {
-        Kernel::Least(_, from) => least_of_two(alloc, &tile, tile_at(cells, from)),
-        Kernel::Push(_, from, above) => push_to(tile, tile_at(cells, from), above),
+        Kernel::Least(_to, from) => least_from(alloc, cells, &tile, from),
+        Kernel::Push(_to, from, above) => push_from(cells, tile, from, above),
         _ => unreachable!(),
     }
 }

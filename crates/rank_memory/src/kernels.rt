@@ -1,13 +1,13 @@
 //! What kernels do to matrices beyond the dense kernels: additions on a triangle, and elimination below a global row.
-ghost use Rattle.std.specs.Prelude.{◌≡◌, ◌≢◌, ◌+◌, ◌-◌, ◌*◌, ◌%◌, ◌<◌, if◌then◌else◌, nat_lt, nat_le, IsTrue, OnOk};
+ghost use Rattle.std.specs.Prelude.{◌≡◌, ◌≢◌, ◌+◌, ◌-◌, ◌*◌, ◌%◌, ◌<◌, ◌≤◌, if◌then◌else◌, nat_lt, nat_le, IsTrue, OnOk};
 ghost use Rattle.field_core.specs.Residue.{inverse};
-ghost use Rattle.run_data.specs.Matrix.{cols, AreWords};
-ghost use Rattle.run_data.specs.Parts.{IsWithin, SameShape, part_entry};
+ghost use Rattle.run_data.specs.Matrix.{cols, entry, AreWords};
+ghost use Rattle.run_data.specs.Parts.{IsWithin, SameShape, part_entry, with_part};
 ghost use Rattle.local_blas.specs.Kernels.{with_added, with_eliminated};
 ghost use Rattle.blacs_grid.specs.Places.{is_member};
 ghost use Rattle.rank_machine.specs.Setting.{global_row};
 ghost use Rattle.rank_machine.specs.Effect.{area};
-ghost use Rattle.rank_memory.specs.Places.{layout_of, IsSound};
+ghost use Rattle.rank_memory.specs.Places.{layout_of, column_in, IsSound};
 ghost use Rattle.rank_slots.specs.Shapes.{is_in_triangle};
 
 use crate::pieces::{area_of, part_in};
@@ -39,6 +39,36 @@ fn is_on_side(upper: bool, i: u32, end: u32) -> bool
     if upper { i < end } else { i >= end }
 }
 
+// Adds `a` times a column of a part of another matrix to the rows before an end, or to the others.
+#[tactic(auto, using(run_data::proofs::Fills::fills))]
+fn add_column<K: Field>(
+    dst: &mut Mat,
+    at: Part,
+    j: u32,
+    a: u32,
+    src: &Mat,
+    sp: Part,
+    upper: bool,
+    end: u32,
+)
+    requires dst_part { IsWithin at dst.old }
+    requires src_part { IsWithin sp src.now }
+    requires shape { SameShape at sp }
+    requires first { at.c0 ≤ j }
+    requires last { j < at.c1 }
+    requires factor { a < K.MODULUS }
+    requires dst_words { AreWords K.MODULUS dst.old }
+    requires src_words { AreWords K.MODULUS src.now }
+    ensures { dst.new ≡ with_part dst.old (column_in at j) (λ i k. if (if upper then nat_lt i end else nat_le end i) then (entry dst.old i k + a * part_entry src.now sp (i - at.r0) (k - at.c0)) % K.MODULUS else entry dst.old i k) }
+{
+    let _shaped = dst.rows();
+    for i in at.r0..at.r1 {
+        let word = dst.get(i, j);
+        let other = src.get(sp.r0 + (i - at.r0), sp.c0 + (j - at.c0));
+        dst.set(i, j, gain::<K>(word, a, other, is_on_side(upper, i, end)));
+    }
+}
+
 /// Adds `a` times a part of another matrix to the entries of a block column on or above the diagonal, or to those below it.
 #[tactic(auto, using(run_data::proofs::Fills::fills))]
 pub fn add_triangle<K: Field>(
@@ -66,11 +96,7 @@ pub fn add_triangle<K: Field>(
     let first_column = u64::from(block) * u64::from(placed.desc.nb);
     for j in at.c0..at.c1 {
         let end = rows_below(placed, rank, at.r1, first_column + u64::from(j) + 1);
-        for i in at.r0..at.r1 {
-            let word = dst.get(i, j);
-            let other = src.get(sp.r0 + (i - at.r0), sp.c0 + (j - at.c0));
-            dst.set(i, j, gain::<K>(word, a, other, is_on_side(upper, i, end)));
-        }
+        add_column::<K>(dst, at, j, a, src, sp, upper, end);
     }
 }
 

@@ -8,6 +8,7 @@ mod made;
 mod mem;
 mod pieces;
 mod placed;
+mod reads;
 mod search;
 mod words;
 
@@ -17,6 +18,3 @@ pub use rank_machine::{Cut, Kernel, Piece, Slot, SlotKind, Tile};
 pub use rank_slots::{Cell, Cells};
 pub use run_data::{IndexList, Mat, Part};
 pub use script_lines::{Layout, Line};
-
-#[cfg(test)]
-mod tests;

@@ -1,14 +1,15 @@
 //! The kernels that may make their slot.
 ghost use Rattle.std.specs.Prelude.{◌≡◌, ◌+◌, ◌∷◌, [], true, min, nat_lt, Some, IsTrue, IfOk};
-ghost use Rattle.rank_machine.specs.declared.slot.Tile.TheVariants.{Index};
+ghost use Rattle.run_data.specs.Parts.{part_of};
+ghost use Rattle.rank_machine.specs.declared.slot.Tile.TheVariants.{Words, Index};
 ghost use Rattle.rank_machine.specs.Setting.{layout};
-ghost use Rattle.rank_machine.specs.Effect.{words_of, is_words, slot_of, target, matrix_in, area_in, piece_in, made_by, number_of, first_row, least_of, number_if, is_zero_here, diagonal};
+ghost use Rattle.rank_machine.specs.Effect.{words_of, is_words, slot_of, target, matrix_in, area_in, piece_in, made_by, number_of, first_row, least_of, number_if, is_zero_here, diagonal, transposed};
 ghost use Rattle.rank_machine.specs.Legal.{makes, holds, holds_words, in_matrix, breadth, is_number};
 ghost use Rattle.script_lines.specs.Lines.{setting_on, AreSound};
 ghost use Rattle.rank_slots.specs.Cells.{tiles_in};
 ghost use Rattle.rank_slots.specs.Rank.{IsFit};
 
-use crate::pieces::{area_of, cut_out, zero_tile};
+use crate::pieces::{area_of, cut_out, transpose, zero_tile};
 use crate::placed::located;
 use crate::search::{first_row, first_zero};
 use field_core::Field;
@@ -36,6 +37,7 @@ pub fn target_of(kernel: &Kernel) -> Slot
         Kernel::Least(to, _) => to,
         Kernel::Elim(to, _, _, _) => to,
         Kernel::Push(to, _, _) => to,
+        Kernel::Trans(to, _) => to,
     }
 }
 
@@ -48,6 +50,7 @@ pub fn may_make(kernel: &Kernel) -> bool
         Kernel::Copy(Piece::Whole(_), _) => true,
         Kernel::First(_, _, _, _) => true,
         Kernel::Diag(_, _, _) => true,
+        Kernel::Trans(_, _) => true,
         _ => false,
     }
 }
@@ -145,6 +148,15 @@ pub fn words_at(cells: &Cells, x: Piece) -> &Mat
     }
 }
 
+// The transpose of a piece's words, as a tile.
+fn transposed_from(alloc: Global, cells: &Cells, from: Piece) -> Result<Tile, AllocError>
+    requires { IsTrue (holds_words (tiles_in cells.now) from) }
+    ensures { IfOk result (λ t. t ≡ Words (transposed (part_of (matrix_in (tiles_in cells.now) from) (area_in (tiles_in cells.now) from)))) }
+{
+    let m = words_at(cells, from);
+    Ok(Tile::Words(transpose(alloc, m, area_of(from, m))?))
+}
+
 /// The tile that a kernel makes, of those that may make their slot.
 pub fn made<K: Field>(
     alloc: Global,
@@ -163,6 +175,7 @@ pub fn made<K: Field>(
         Kernel::Copy(Piece::Whole(_), from) => copied(alloc, cells, from),
         Kernel::First(_, from, j, above) => first_in(alloc, table, rank, cells, from, j, above),
         Kernel::Diag(_, from, n) => zero_in(alloc, table, rank, cells, from.slot(), n),
+        Kernel::Trans(_, from) => transposed_from(alloc, cells, from),
         _ => unreachable!(),
     }
 }

@@ -10,7 +10,7 @@ use crate::made::copied;
 use field_core::Field;
 use rank_machine::{Kernel, Mark, Piece, Slot, Tile};
 use rank_run::Store;
-use rank_slots::{Cells, clear, find_tile, keep, put, save, words};
+use rank_slots::{Cells, clear, find_tile, keep, put, save, undo, words};
 use script_lines::Line;
 use std::alloc::{AllocError, Global};
 use std::marker::{Model, PhantomData};
@@ -39,6 +39,7 @@ impl<K: Field> Model for RankMem<K> {
 
 impl<K: Field> RankMem<K> {
     ghost use Rattle.rank_slots.specs.Rank.{with_cells, with_tile, with_save};
+    ghost use Rattle.rank_slots.specs.Lost.{lost_rank, restored, spawned};
 
     /// A live rank of that number that holds nothing, with a copy of the table.
     pub fn new(alloc: Global, table: &[Line], number: u32) -> Result<RankMem<K>, AllocError>
@@ -93,6 +94,29 @@ impl<K: Field> RankMem<K> {
         ensures { self.new ≡ with_cells self.old (kept_in (effect.is_live (setting_on 0 self.old.table) mark self.old.number) self.old.cells) }
     {
         keep(&mut self.cells, &self.table, mark, self.number);
+    }
+
+    /// What was saved goes back, and what is fresh goes. Each slot has one cell, since they are in the order of their slots.
+    pub fn restore(&mut self)
+        ensures ordered { AreOrdered self.old.cells }
+        ensures restored { self.new ≡ restored self.old }
+    {
+        undo(&mut self.cells);
+    }
+
+    /// The rank is lost, with its memory.
+    pub fn lose(&mut self)
+        ensures { self.new ≡ lost_rank self.old }
+    {
+        clear(&mut self.cells);
+        self.live = false;
+    }
+
+    /// The rank is live.
+    pub fn spawn(&mut self)
+        ensures { self.new ≡ spawned self.old }
+    {
+        self.live = true;
     }
 
     /// Is live and holds nothing.

@@ -1,9 +1,10 @@
 //! Pieces of tiles: cutting them out, and putting words into them.
-ghost use Rattle.std.specs.Prelude.{◌≡◌, ◌-◌, Some, IsTrue, IfOk};
+ghost use Rattle.std.specs.Prelude.{◌≡◌, ◌-◌, ◌<◌, Some, IsTrue, IfOk};
 ghost use Rattle.run_data.specs.Matrix.{cols};
-ghost use Rattle.run_data.specs.Parts.{IsWithin, SameShape, part_of, with_copy};
-ghost use Rattle.rank_machine.specs.Effect.{area, cut_out, zero_tile};
+ghost use Rattle.run_data.specs.Parts.{IsWithin, SameShape, part_entry, part_of, with_part, with_copy};
+ghost use Rattle.rank_machine.specs.Effect.{area, cut_out, transposed, zero_tile};
 ghost use Rattle.rank_machine.specs.Legal.{holds};
+ghost use Rattle.rank_memory.specs.Places.{column};
 ghost use Rattle.rank_slots.specs.Shapes.{from_corner};
 
 use rank_machine::{Piece, Slot, SlotKind, Tile};
@@ -47,6 +48,33 @@ pub fn cut_out(alloc: Global, x: Piece, tile: &Tile) -> Result<Tile, AllocError>
         Tile::Words(m) => Ok(Tile::Words(part_in(alloc, x, m)?)),
         Tile::Index(numbers) => Ok(Tile::Index(numbers.copy(alloc)?)),
     }
+}
+
+// Writes a row of a part of a matrix into the column of that number.
+fn put_row(dst: &mut Mat, row: u32, src: &Mat, at: Part)
+    requires within { IsWithin at src.now }
+    requires row { row < at.r1 - at.r0 }
+    requires rows { dst.old.rows ≡ at.c1 - at.c0 }
+    requires columns { cols dst.old ≡ at.r1 - at.r0 }
+    ensures { dst.new ≡ with_part dst.old (column dst.old row) (λ i j. part_entry src.now at j i) }
+{
+    for i in 0..dst.rows() {
+        dst.set(i, row, src.get(at.r0 + row, at.c0 + i));
+    }
+}
+
+/// The transpose of a part of a matrix.
+pub fn transpose(alloc: Global, m: &Mat, at: Part) -> Result<Mat, AllocError>
+    requires { IsWithin at m.now }
+    ensures { IfOk result (λ t. t ≡ transposed (part_of m.now at)) }
+{
+    let rows = at.c1 - at.c0;
+    let cols = at.r1 - at.r0;
+    let mut result = Mat::zeros(alloc, rows, cols)?;
+    for j in 0..cols {
+        put_row(&mut result, j, m, at);
+    }
+    Ok(result)
 }
 
 /// A zero tile of a shape, and of a pivot list the empty one.

@@ -1,7 +1,7 @@
 //! Where the matrices of a script lie.
 ghost use Rattle.std.specs.Prelude.{◌≡◌, ℕ, ◌≤◌, ◌<◌, IsTrue};
 ghost use Rattle.array_desc.specs.Maps.{global};
-ghost use Rattle.blacs_grid.specs.Places.{is_member};
+ghost use Rattle.blacs_grid.specs.Places.{is_member, row_of};
 ghost use Rattle.rank_machine.specs.Setting.{layout, global_row};
 ghost use Rattle.script_lines.specs.Lines.{setting_on, AreSound};
 ghost use Rattle.rank_memory.specs.Places.{layout_of, IsSound};
@@ -45,6 +45,19 @@ pub fn global_of(placed: &Placed, row: u32, i: u32) -> u64
     block * u64::from(placed.desc.mb) + u64::from(i % placed.desc.mb)
 }
 
+/// The process row of a rank.
+pub fn row_on(placed: &Placed, rank: u32) -> u32
+    requires sound { IsSound placed.now }
+    requires member { IsTrue (is_member placed.now.grid rank) }
+    ensures value { result ≡ row_of placed.now.grid rank }
+    ensures in_grid { result < placed.now.grid.p }
+{
+    match placed.grid.coords(rank) {
+        Some((row, _)) => row,
+        None => unreachable!(),
+    }
+}
+
 /// How many of the first rows of a rank have a global row below a limit. Global rows rise with local ones.
 pub fn rows_below(placed: &Placed, rank: u32, rows: u32, limit: u64) -> u32
     requires sound { IsSound placed.now }
@@ -53,10 +66,7 @@ pub fn rows_below(placed: &Placed, rank: u32, rows: u32, limit: u64) -> u32
     ensures below { (i : ℕ) → i < result → global_row (layout_of placed.now) rank i < limit }
     ensures above { (i : ℕ) → result ≤ i → i < rows → limit ≤ global_row (layout_of placed.now) rank i }
 {
-    let row = match placed.grid.coords(rank) {
-        Some((row, _)) => row,
-        None => unreachable!(),
-    };
+    let row = row_on(placed, rank);
     let mut count = 0;
     while count < rows && global_of(placed, row, count) < limit {
         count += 1;

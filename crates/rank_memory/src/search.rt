@@ -9,7 +9,7 @@ ghost use Rattle.rank_machine.specs.Effect.{words_of, least_of, number_if, is_ze
 ghost use Rattle.rank_memory.specs.Places.{layout_of, IsSound};
 ghost use Rattle.rank_slots.specs.Cells.{tiles_in};
 
-use crate::placed::{Placed, global_of};
+use crate::placed::{Placed, global_of, row_on};
 use array_desc::{local, owner};
 use rank_machine::{Slot, SlotKind, Tile};
 use rank_slots::{Cells, find_tile};
@@ -39,10 +39,7 @@ pub fn first_row(m: &Mat, at: Part, j: u32, placed: &Placed, rank: u32, above: u
     requires column { j < at.c1 - at.c0 }
     ensures { result ≡ least_of (at.r1 - at.r0) (λ i. number_if (not (entry m.now (at.r0 + i) (at.c0 + j) == 0) && nat_lt above (global_row (layout_of placed.now) rank (at.r0 + i) + 1)) (global_row (layout_of placed.now) rank (at.r0 + i) + 1)) }
 {
-    let row = match placed.grid.coords(rank) {
-        Some((row, _)) => row,
-        None => unreachable!(),
-    };
+    let row = row_on(placed, rank);
     let mut best = 2048;
     for i in 0..at.r1 - at.r0 {
         let word = m.get(at.r0 + i, at.c0 + j);

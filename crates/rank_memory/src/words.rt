@@ -2,13 +2,13 @@
 ghost use Rattle.std.specs.Prelude.{◌≡◌, ◌<◌, ◌+◌, ◌&&◌, ◌==◌, not, nat_lt, IsTrue, OnOk};
 ghost use Rattle.field_core.specs.Residue.{inverse};
 ghost use Rattle.run_data.specs.Matrix.{cols, entry, AreWords};
-ghost use Rattle.run_data.specs.Parts.{part_of, with_copy};
+ghost use Rattle.run_data.specs.Parts.{IsWithin, SameShape, part_of, with_copy};
 ghost use Rattle.local_blas.specs.Kernels.{with_scaled, with_added, with_product, with_solved_lower, with_solved_upper, with_eliminated};
 ghost use Rattle.rank_machine.specs.Setting.{layout, global_row};
 ghost use Rattle.rank_machine.specs.Effect.{slot_of, area, reaches};
 ghost use Rattle.rank_machine.specs.Legal.{is_inside, same_area, is_square, is_cut_placed, in_matrix, height, breadth};
 ghost use Rattle.script_lines.specs.Lines.{setting_on, AreSound};
-ghost use Rattle.rank_slots.specs.Shapes.{from_corner, has_nonzero_diagonal};
+ghost use Rattle.rank_slots.specs.Shapes.{from_corner, has_nonzero_diagonal, is_in_triangle};
 
 use crate::kernels::{add_triangle, eliminate_below};
 use crate::pieces::{area_of, put_copy};
@@ -43,6 +43,33 @@ pub fn scale_words<K: Field>(dst: &mut Mat, to: Piece, a: u32)
     scale::<K>(dst, at, a);
 }
 
+// The entries of a block column on or above the diagonal, or those below it, gain a factor times a part of another matrix.
+fn add_in_triangle<K: Field>(
+    table: &[Line],
+    rank: u32,
+    dst: &mut Mat,
+    slot: Slot,
+    at: Part,
+    a: u32,
+    src: &Mat,
+    sp: Part,
+    upper: bool,
+    block: u32,
+)
+    requires sound { AreSound table.now }
+    requires placed { IsTrue (in_matrix (setting_on 0 table.now) rank slot) }
+    requires dst_part { IsWithin at dst.old }
+    requires src_part { IsWithin sp src.now }
+    requires shape { SameShape at sp }
+    requires factor { a < K.MODULUS }
+    requires dst_words { AreWords K.MODULUS dst.old }
+    requires src_words { AreWords K.MODULUS src.now }
+    ensures { dst.new ≡ with_added K.MODULUS dst.old at a src.now sp (is_in_triangle (layout (setting_on 0 table.now) slot.id) rank upper block) }
+{
+    let placed = located(table, slot.id);
+    add_triangle::<K>(dst, at, a, src, sp, &placed, rank, upper, block);
+}
+
 /// A piece gains a factor times a piece of another matrix, on all entries or on those of a block column that a cut reaches.
 #[tactic(auto, using(rank_slots::proofs::TestLaws::tests))]
 pub fn add_words<K: Field>(
@@ -70,12 +97,10 @@ pub fn add_words<K: Field>(
     match cut {
         Cut::Whole => add_scaled::<K>(dst, at, a, src, sp),
         Cut::Upper(block) => {
-            let placed = located(table, to.slot().id);
-            add_triangle::<K>(dst, at, a, src, sp, &placed, rank, true, block)
+            add_in_triangle::<K>(table, rank, dst, to.slot(), at, a, src, sp, true, block)
         }
         Cut::Lower(block) => {
-            let placed = located(table, to.slot().id);
-            add_triangle::<K>(dst, at, a, src, sp, &placed, rank, false, block)
+            add_in_triangle::<K>(table, rank, dst, to.slot(), at, a, src, sp, false, block)
         }
     }
 }

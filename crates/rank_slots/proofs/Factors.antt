@@ -8,7 +8,7 @@ use Rattle.field_core.specs.FieldLaws.{IsField}
 use Rattle.cauchy_code.specs.Cauchy.{weight}
 use Rattle.cauchy_code.proofs.Inverses.{inverse_law}
 use Rattle.blacs_grid.specs.declared.Grid.{Grid}
-use Rattle.blacs_grid.specs.Places.{is_member}
+use Rattle.blacs_grid.specs.Places.{row_of, is_member}
 use Rattle.script_lines.specs.Layouts.{AreGrids}
 use Rattle.rank_machine.specs.Setting.{Job, Setting, some_below, job_in, job, grid_in, grid_of_rank}
 use Rattle.rank_machine.specs.State.{State}
@@ -112,5 +112,5 @@ module _ (p : ℕ) (large : 32 ≤ p) (field : IsField p) where
   factors_below s modulus inverses scalars grids st rank a h =
       ⊎_elim
       (λ (e : IsTrue (is_plain_factor s st rank a)). plain_below s st rank a modulus inverses scalars grids e)
-      (λ (e : IsDecodingEntry s (grid_of_rank s rank) (lost_columns st (grid_of_rank s rank) rank) a). entry_below s (grid_of_rank s rank) _ a modulus e)
+      (λ (e : IsDecodingEntry s (grid_of_rank s rank) (lost_columns st (grid_of_rank s rank) (row_of (grid_of_rank s rank) rank)) a). entry_below s (grid_of_rank s rank) _ a modulus e)
       h

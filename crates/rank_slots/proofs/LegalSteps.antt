@@ -4,7 +4,7 @@ use Rattle.std.specs.Prelude.{if◌then◌else◌}
 use Rattle.std.specs.Option.{IsSomeAnd}
 use Rattle.std.proofs.lemmas.Bool.{and_parts, lt-ltb, ltb-true, true≢false}
 use Rattle.std.proofs.lemmas.List.Elements.{All-head, All-tail, All-weaker}
-use Rattle.blacs_grid.specs.Places.{is_member, is_data_rank}
+use Rattle.blacs_grid.specs.Places.{is_member, row_of, is_data_rank}
 use Rattle.rank_link.specs.Traffic.{messages}
 use Rattle.rank_run.specs.Action.{Action, Works, Sends, Receives}
 use Rattle.rank_run.specs.Machine.{Machine, after_step, MayStep, MaySteps}
@@ -22,8 +22,8 @@ use Rattle.rank_machine.specs.declared.kernel.Kernel.{Kernel}
 use Rattle.rank_machine.specs.declared.kernel.Kernel.TheVariants as k
 use Rattle.rank_machine.specs.Setting.{Setting, ranks, all_below, group_count, blocks}
 use Rattle.rank_machine.specs.State.{State, kind_number, same_slot}
-use Rattle.rank_machine.specs.CodeLaw.{slot_at}
-use Rattle.rank_machine.specs.Effect.{slot_of, is_whole, target, is_words, after}
+use Rattle.rank_machine.specs.CodeLaw.{slot_at, is_strip_of}
+use Rattle.rank_machine.specs.Effect.{slot_of, is_whole, target, after}
 use Rattle.rank_machine.specs.Legal.{may_write, may_change, makes, in_matrix, is_cut_placed, is_placed, has_strips, is_held, is_shaped, has_divisors, holds, holds_words, height, breadth, fits, factor_of, FactorOf, IsFactor, is_path, IsRun, IsLegalRec, IsLegalFrom}
 use Rattle.script_lines.specs.declared.lines.Line.{Line}
 use Rattle.script_lines.specs.Lines.{setting_on}
@@ -58,6 +58,7 @@ module _ (s : Setting) (p : ℕ) (table : List Line) (ag : AgreesOn s p table) w
   same_placed rank (k.Least to from) = refl
   same_placed rank (k.Elim to j above row) = same_in_matrix rank to
   same_placed rank (k.Push to from above) = refl
+  same_placed rank (k.Trans to from) = refl
 
   same_strips : (rank : ℕ) (mem held : Slot → Option Tile) (x : Kernel) → ((slot : Slot) → mem slot ≡ held slot) → has_strips (setting_on p table) rank mem x ≡ has_strips s rank held x
   same_strips rank mem held (k.Zero to rows columns) h = refl
@@ -71,10 +72,11 @@ module _ (s : Setting) (p : ℕ) (table : List Line) (ag : AgreesOn s p table) w
   same_strips rank mem held (k.First to from j above) h = refl
   same_strips rank mem held (k.Diag to from n) h =
       let line = (slot_of from).id in
-      λ i. not (is_data_rank (ag.layouts line i).grid rank) || all_below (group_count (ag.layouts line i)) (λ group. is_words (h (slot_at Data line group) i) && not (same_slot to (slot_at Data line group)))
+      λ i. not (is_data_rank (ag.layouts line i).grid rank) || all_below (group_count (ag.layouts line i)) (λ group. is_strip_of (ag.layouts line i) (row_of (ag.layouts line i).grid rank) (h (slot_at Data line group) i) && not (same_slot to (slot_at Data line group)))
   same_strips rank mem held (k.Least to from) h = refl
   same_strips rank mem held (k.Elim to j above row) h = refl
   same_strips rank mem held (k.Push to from above) h = refl
+  same_strips rank mem held (k.Trans to from) h = refl
 
 -- a factor that a line allows is a residue
 below_factor : (s : Setting) (p : ℕ) (st : State) (rank : ℕ) (o : Option ℕ) → AreFactorsBelow s p → FactorOf s st rank o → IsTrue (is_below p o)

@@ -13,3 +13,5 @@ pub mod Steps
 pub mod StoreLaws
 pub mod TestLaws
 pub mod Worlds
+pub mod Undone
+pub mod Losses

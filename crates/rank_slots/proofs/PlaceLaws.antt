@@ -22,7 +22,7 @@ pub past_first : (x : Cell) (xs : List Cell) (s : Slot) → same_slot s x.slot �
 past_first x xs s e = rw e refl
 
 -- cells that come after a slot do not have it
-after_none : (s : Slot) (xs : List Cell) → All (λ (y : Cell). is_before s y.slot ≡ true) xs → cell_in xs s ≡ None
+pub after_none : (s : Slot) (xs : List Cell) → All (λ (y : Cell). is_before s y.slot ≡ true) xs → cell_in xs s ≡ None
 after_none s [] h = refl
 after_none s (x ∷ xs) h =
     past_first x xs s (before_other s x.slot (All-head (λ (y : Cell). is_before s y.slot ≡ true) x xs h))

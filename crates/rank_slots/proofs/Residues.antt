@@ -102,3 +102,7 @@ made_residues s rank holding (k.Elim to j above row) some h =
     IsMatrixOf-tabulate s.modulus (words_of (holding to)).rows (cols (words_of (holding to))) _ some
     (λ r c _ _. below_if s.modulus _ _ _ (eliminated_below s.modulus s.inverse (words_of (holding to)) j (part_entry (matrix_in holding row) (area_in holding row) 0) r c some) (words.below r c))
 made_residues s rank holding (k.Push to from above) some h = tt
+made_residues s rank holding (k.Trans to from) some h =
+    let part : Matrix = part_of (matrix_in holding from) (area_in holding from) in
+    let words = (part_residues s.modulus (matrix_in holding from) (area_in holding from) some (words_of_tile s.modulus (holding (slot_of from)) some (h (slot_of from)))).words in
+    IsMatrixOf-tabulate s.modulus (cols part) part.rows (λ i j. entry part j i) some (λ r c _ _. words.below c r)

@@ -199,6 +199,7 @@ made-agrees s p table rank mem (k.Elim to j above row) h =
     let l = h.layouts to.id in
     λ n. Words (with_eliminated (e n) (f n) (words_of (mem to)) (λ i. nat_lt above (global_row (l n) rank i)) j (matrix_in mem row) (area_in mem row))
 made-agrees s p table rank mem (k.Push to from above) h = refl
+made-agrees s p table rank mem (k.Trans to from) h = refl
 
 -- a kernel reads what is held slot by slot
 pub made-same : (s : Setting) (rank : ℕ) (f g : Slot → Option Tile) (x : Kernel) → ((slot : Slot) → f slot ≡ g slot) → made_by s rank f x ≡ made_by s rank g x
@@ -346,27 +347,28 @@ steps s p table x st (t ∷ ts) agrees h within may =
 pub record SameMarks (a b : State) : Type 0 where
   pub mark : a.mark ≡ b.mark
   pub lost : a.lost ≡ b.lost
+  pub spawned : a.spawned ≡ b.spawned
   pub taken : a.taken ≡ b.taken
   pub committed : a.committed ≡ b.committed
 
 -- no step changes it
 pub marks_stay : (s : Setting) (st : State) (t : Action Kernel Piece) → SameMarks (after s st (rec_of t)) st
-marks_stay s st (Works r op) = record { mark = refl; lost = refl; taken = refl; committed = refl }
-marks_stay s st (Sends from to y) = record { mark = refl; lost = refl; taken = refl; committed = refl }
-marks_stay s st (Receives to from y) = record { mark = refl; lost = refl; taken = refl; committed = refl }
+marks_stay s st (Works r op) = record { mark = refl; lost = refl; spawned = refl; taken = refl; committed = refl }
+marks_stay s st (Sends from to y) = record { mark = refl; lost = refl; spawned = refl; taken = refl; committed = refl }
+marks_stay s st (Receives to from y) = record { mark = refl; lost = refl; spawned = refl; taken = refl; committed = refl }
 
 -- the same as what has the same
 then_marks : (a b c : State) → SameMarks a b → SameMarks b c → SameMarks a c
-then_marks a b c h g = record { mark = h.mark ∙ g.mark; lost = h.lost ∙ g.lost; taken = h.taken ∙ g.taken; committed = h.committed ∙ g.committed }
+then_marks a b c h g = record { mark = h.mark ∙ g.mark; lost = h.lost ∙ g.lost; spawned = h.spawned ∙ g.spawned; taken = h.taken ∙ g.taken; committed = h.committed ∙ g.committed }
 
 -- nor do steps
 pub all_marks_stay : (s : Setting) (st : State) (ts : List (Action Kernel Piece)) → SameMarks (replay s st (map rec_of ts)) st
-all_marks_stay s st [] = record { mark = refl; lost = refl; taken = refl; committed = refl }
+all_marks_stay s st [] = record { mark = refl; lost = refl; spawned = refl; taken = refl; committed = refl }
 all_marks_stay s st (t ∷ ts) = then_marks (replay s (after s st (rec_of t)) (map rec_of ts)) (after s st (rec_of t)) st (all_marks_stay s (after s st (rec_of t)) ts) (marks_stay s st t)
 
 -- nor do the events of a round
 pub events_marks_stay : (s : Setting) (st : State) (es : List (Event Rank Kernel Piece Tile)) → SameMarks (replay s st (records_of es)) st
-events_marks_stay s st [] = record { mark = refl; lost = refl; taken = refl; committed = refl }
+events_marks_stay s st [] = record { mark = refl; lost = refl; spawned = refl; taken = refl; committed = refl }
 events_marks_stay s st (Local r op ∷ es) =
     let next = after s st (rec_of (Works r op)) in
     then_marks (replay s next (records_of es)) next st (events_marks_stay s next es) (marks_stay s st (Works r op))
@@ -377,7 +379,7 @@ events_marks_stay s st (Move from to a b ∷ es) =
 
 -- two states with the marks of a third have the same
 pub both_marks : (a b st : State) → SameMarks a st → SameMarks b st → SameMarks a b
-both_marks a b st h g = record { mark = h.mark ∙ sym g.mark; lost = h.lost ∙ sym g.lost; taken = h.taken ∙ sym g.taken; committed = h.committed ∙ sym g.committed }
+both_marks a b st h g = record { mark = h.mark ∙ sym g.mark; lost = h.lost ∙ sym g.lost; spawned = h.spawned ∙ sym g.spawned; taken = h.taken ∙ sym g.taken; committed = h.committed ∙ sym g.committed }
 
 -- the messages of each pair are those of the memories and links
 links_same : (s : Setting) (table : List Line) (x : Machine Rank Tile) (a b : State) (from to : ℕ) → Stands s table x a → Stands s table x b → a.links from to ≡ b.links from to
@@ -396,6 +398,7 @@ pub same_state : (s : Setting) (table : List Line) (x : Machine Rank Tile) (a b 
 same_state s table x a b h g same =
     let mark = same.mark in
     let lost = same.lost in
+    let spawned = same.spawned in
     let taken = same.taken in
     let committed = same.committed in
     λ n. record {
@@ -406,6 +409,7 @@ same_state s table x a b h g same =
       links = λ from to. links_same s table x a b from to h g n;
       mark = mark n;
       lost = lost n;
+      spawned = spawned n;
       taken = taken n;
       committed = committed n;
     }

@@ -81,7 +81,7 @@ base_kept s table a b sa sb same h g rank slot =
 -- ---- one rank changes
 module _ {X : Type 0} where
   -- what each has, and the change keeps, each has after it
-  All-on_rank : (P : X → Type 0) (xs : List X) (r : ℕ) (f : X → X) → ((x : X) → P x → P (f x)) → All P xs → All P (on_rank xs r f)
+  pub All-on_rank : (P : X → Type 0) (xs : List X) (r : ℕ) (f : X → X) → ((x : X) → P x → P (f x)) → All P xs → All P (on_rank xs r f)
   All-on_rank P [] r f g h = h
   All-on_rank P (x ∷ xs) zero f g h = All-cons P (f x) xs (g x (All-head P x xs h)) (All-tail P x xs h)
   All-on_rank P (x ∷ xs) (suc r) f g h = All-cons P x (on_rank xs r f) (All-head P x xs h) (All-on_rank P xs r f g (All-tail P x xs h))

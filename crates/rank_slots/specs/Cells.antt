@@ -1,5 +1,5 @@
 -- The slots that a rank holds, each with its tile, what was saved of it, and whether it is fresh.
-use Rattle.std.specs.Prelude.{◌≡◌, ◌+◌, ◌&&◌, ◌||◌, ◌==◌, ℕ, suc, Bool, true, false, nat_lt, if◌then◌else◌, Option, Some, None, List, [], ◌∷◌, All}
+use Rattle.std.specs.Prelude.{◌≡◌, ◌+◌, ◌&&◌, ◌||◌, ◌==◌, ℕ, suc, Bool, true, false, not, nat_lt, if◌then◌else◌, Option, Some, None, List, [], ◌∷◌, All}
 use Rattle.run_data.specs.Matrix.{Matrix, IsShaped, AreWords}
 use Rattle.rank_machine.specs.declared.slot.Slot.{Slot}
 use Rattle.rank_machine.specs.declared.slot.Tile.{Tile}
@@ -70,6 +70,10 @@ with_saved_cell xs (Some x) = with_cell xs (record { slot = x.slot; tile = x.til
 
 abbrev pub with_saved_in : List Cell → Slot → List Cell
 with_saved_in xs slot = with_saved_cell xs (cell_in xs slot)
+
+-- a cell with nothing saved, and fresh if its slot does not pass a test
+abbrev pub judged : (Slot → Bool) → Cell → Cell
+judged test x = record { slot = x.slot; tile = x.tile; saved = None; fresh = not (test x.slot) }
 
 -- the cells of the slots that pass a test, with nothing saved and none fresh
 abbrev pub kept_in : (Slot → Bool) → List Cell → List Cell

@@ -42,6 +42,7 @@ state_in m = record {
   links = λ _ _. [];
   mark = first_mark;
   lost = λ _. false;
+  spawned = 0;
   taken = [];
   committed = [];
 }
@@ -98,7 +99,14 @@ changes_words (k.First to from j above) = false
 changes_words (k.Diag to from n) = false
 changes_words (k.Least to from) = false
 changes_words (k.Push to from above) = false
-changes_words _ = true
+changes_words (k.Scale to a) = true
+changes_words (k.Add to a from cut) = true
+changes_words (k.MulAdd to a left right) = true
+changes_words (k.Lower to block unit) = true
+changes_words (k.Upper to block unit) = true
+changes_words (k.Swap to i j) = true
+changes_words (k.Elim to j above row) = true
+changes_words (k.Trans to from) = false
 
 -- the places of matrices are within their limits, and all words are residues
 pub record IsRank (p : ℕ) (table : List Line) (cells : List Cell) : Type 0 where

@@ -1,20 +1,18 @@
 //! The slots that a rank holds.
-ghost use Rattle.std.specs.Prelude.{◌≡◌, ◌-◌, ◌*◌, ◌^◌, [], min, Some, None, IsSome, IsNone, IsOk, IfOk, IfErr, OnOk, OnErr};
+ghost use Rattle.std.specs.Prelude.{◌≡◌, ◌-◌, ◌*◌, ◌^◌, [], map, min, Some, None, IsSome, IsNone, IsOk, IfOk, IfErr, OnOk, OnErr};
 ghost use Rattle.std.specs.Option.{option_copied};
 ghost use Rattle.rank_machine.specs.Held.{size_of};
 ghost use Rattle.rank_machine.specs.Effect as effect;
 ghost use Rattle.script_lines.specs.Lines.{setting_on, AreSound};
-ghost use Rattle.rank_slots.specs.Cells.{cell_in, tiles_in, is_before, AreOrdered, place_in, with_tile_in, with_saved_in, kept_in, words_of_cells, empty_tile};
+ghost use Rattle.rank_slots.specs.Cells.{cell_in, tiles_in, is_before, AreOrdered, place_in, with_tile_in, with_saved_in, judged, kept_in, words_of_cells, empty_tile};
+ghost use Rattle.rank_slots.specs.Undone.{undone, undone_in};
 
-use rank_machine::{Mark, Slot, Tile};
+use rank_machine::{Mark, Slot, SlotKind, Tile};
 use run_data::IndexList;
-use script_lines::{Line, is_live};
+use script_lines::{Line, is_live_beside, live_groups};
 use std::alloc::{AllocError, Global};
 use std::marker::Model;
 use std::mem;
-
-#[cfg(test)]
-mod tests;
 
 /// A slot, the tile that it holds, what was saved of it, and whether it was made since the last commit.
 #[derive(Drop)]
@@ -154,18 +152,25 @@ pub fn save(alloc: Global, cells: &mut Cells, slot: Slot) -> Result<(), AllocErr
     Ok(())
 }
 
+// Drops what was saved of each cell, and marks as fresh those whose slots are not live on a rank under a mark.
+fn judge(items: &mut [Cell], table: &[Line], mark: Mark, rank: u32)
+    requires sound { AreSound table.now }
+    ensures { items.new ≡ map (judged (effect.is_live (setting_on 0 table.now) mark rank)) items.old }
+{
+    let mut groups = live_groups(table, mark, rank, SlotKind::Work, 0);
+    for cell in items.iter_mut() {
+        cell.saved = None;
+        cell.fresh = !is_live_beside(&mut groups, table, mark, rank, cell.slot);
+    }
+}
+
 /// Keeps the slots of a rank that are live under a mark, with nothing saved and none fresh, and lets the others go.
 pub fn keep(cells: &mut Cells, table: &[Line], mark: Mark, rank: u32)
     requires sound { AreSound table.now }
     ensures { cells.new ≡ kept_in (effect.is_live (setting_on 0 table.now) mark rank) cells.old }
 {
-    cells
-        .items
-        .retain(|cell| is_live(table, mark, rank, cell.slot));
-    for cell in cells.items.iter_mut() {
-        cell.saved = None;
-        cell.fresh = false;
-    }
+    judge(&mut cells.items, table, mark, rank);
+    cells.items.retain(|cell| !cell.fresh);
 }
 
 // How many words a tile has.
@@ -185,6 +190,29 @@ fn size_if_some(tile: &Option<Tile>) -> u64
     match tile {
         Some(tile) => size(tile),
         None => 0,
+    }
+}
+
+// A cell gets back what was saved of it.
+fn put_back(cell: &mut Cell)
+    ensures { cell.new ≡ undone cell.old }
+{
+    if let Some(saved) = cell.saved.take() {
+        cell.tile = saved;
+    }
+    cell.fresh = false;
+}
+
+/// What was saved goes back, and what is fresh goes. The cells are in the order of their slots.
+pub fn undo(cells: &mut Cells)
+    ensures ordered { AreOrdered cells.old }
+    ensures undone { cells.new ≡ undone_in cells.old }
+{
+    cells
+        .items
+        .retain(|cell| !cell.fresh || cell.saved.is_some());
+    for cell in cells.items.iter_mut() {
+        put_back(cell);
     }
 }
 

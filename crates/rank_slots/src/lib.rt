@@ -4,7 +4,7 @@
 
 mod cells;
 
-pub use cells::{Cell, Cells, clear, find_cell, find_tile, keep, put, save, take_out, words};
+pub use cells::{Cell, Cells, clear, find_cell, find_tile, keep, put, save, take_out, undo, words};
 pub use rank_machine::{Cut, Kernel, Mark, Piece, Slot, SlotKind, Tile};
 pub use run_data::{IndexList, Mat, Part};
 pub use script_lines::{Layout, Line};

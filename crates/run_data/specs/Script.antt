@@ -40,6 +40,7 @@ makes_records (c.Topology kind) = false
 makes_records (c.Links n) = false
 makes_records (c.Order numbers) = false
 makes_records (c.Lose at rank) = false
+makes_records (c.Spares n) = false
 
 -- the name that a command makes, and the name that it drops
 abbrev pub name_made : Command → Option (List ℕ)
@@ -86,6 +87,33 @@ name_at (c.Topology kind) word = None
 name_at (c.Links n) word = None
 name_at (c.Order numbers) word = None
 name_at (c.Lose at rank) word = None
+name_at (c.Spares n) word = None
+
+-- how many lost ranks can be replaced, after one more command: what a spares line says, and without one there is no limit
+abbrev pub spares_after : Command → Option ℕ → Option ℕ
+spares_after (c.Grid name p q f) before = before
+spares_after (c.Matrix name grid m n mb nb rsrc csrc file) before = before
+spares_after (c.Pgemm transa transb m n k alpha a ia ja b ib jb beta x ic jc) before = before
+spares_after (c.Ptrsm side uplo transa diag m n alpha a ia ja b ib jb) before = before
+spares_after (c.Pgetrf m n a ia ja v) before = before
+spares_after (c.Pgetrs trans n nrhs a ia ja v b ib jb) before = before
+spares_after (c.Pgemr2d m n a ia ja b ib jb ctxt) before = before
+spares_after (c.Print name) before = before
+spares_after (c.Pivots name) before = before
+spares_after (c.Discard name) before = before
+spares_after (c.Topology kind) before = before
+spares_after (c.Links n) before = before
+spares_after (c.Order numbers) before = before
+spares_after (c.Lose at rank) before = before
+spares_after (c.Spares n) before = Some n
+
+abbrev pub spares_from : Option ℕ → List Numbered → Option ℕ
+spares_from before [] = before
+spares_from before (n ∷ ns) = spares_from (spares_after n.command before) ns
+
+-- how many lost ranks can be replaced, or None where there is no limit
+abbrev pub spares_of : List Numbered → Option ℕ
+spares_of ns = spares_from None ns
 
 abbrev pub is_grid : Command → Bool
 is_grid (c.Grid name p q f) = true

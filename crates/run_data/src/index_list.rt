@@ -66,21 +66,3 @@ impl IndexList {
         })
     }
 }
-
-#[cfg(test)]
-mod tests {
-    use super::*;
-    use std::test::Fail;
-
-    #[test]
-    fn keeps_its_numbers(rt: HostRuntime) -> Result<(), Fail> {
-        let mut list = IndexList::new(rt.alloc());
-        assert_eq!(rt; list.len(), 0);
-        list.push(3)?;
-        list.push(1)?;
-        let list = list.copy(rt.alloc())?;
-        assert_eq!(rt; list.len(), 2);
-        assert_eq!(rt; (list.get(0), list.get(1)), (3, 1));
-        Ok(())
-    }
-}

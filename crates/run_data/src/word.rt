@@ -35,16 +35,3 @@ impl Word {
         &self.bytes
     }
 }
-
-#[cfg(test)]
-mod tests {
-    use super::*;
-    use std::test::Fail;
-
-    #[test]
-    fn keeps_its_bytes(rt: HostRuntime) -> Result<(), Fail> {
-        let word = Word::new(rt.alloc(), b"a_1")?;
-        assert_eq!(rt; word.bytes(), b"a_1".as_slice());
-        Ok(())
-    }
-}

@@ -4,8 +4,8 @@ use Rattle.std.specs.Prelude.{if◌then◌else◌, nat_lt}
 use Rattle.std.specs.List.{Contains}
 use Rattle.std.proofs.lemmas.Bool.{and_parts, lt-ltb}
 use Rattle.std.proofs.Math.Nat.{div-add-mod, mod-lt}
-use Rattle.run_data.specs.Matrix.{Matrix, entry}
-use Rattle.run_data.proofs.Matrices.{entry-tabulate}
+use Rattle.run_data.specs.Matrix.{Matrix, cols, entry, tabulate}
+use Rattle.run_data.proofs.Matrices.{entry-tabulate, cols-tabulate}
 use Rattle.array_desc.specs.Maps.{owner, local, global, block_in}
 use Rattle.array_desc.proofs.MapLaws.{owner-lt, global-local}
 use Rattle.array_desc.proofs.CountLaws.{local-lt}
@@ -53,6 +53,19 @@ entry-in_strip s d m i k laid i_in k_in =
     ∙ ap (λ (b : Bool). if b then entry m (global_row d rank (local i d.desc.mb d.grid.p)) k else 0) inside
     ∙ ap (λ r. entry m r k) row_is)
 
+-- its place is there
+row-in_strip : (s : Setting) (d : Layout) (m : Matrix) (i k : ℕ) → IsLaidOut s d → i < d.desc.m → k < d.desc.n
+    → local i d.desc.mb d.grid.p < (strip_of d m (rank_of_entry d i k) ((k / d.desc.nb) / d.grid.q)).rows
+unfolding tabulate
+row-in_strip s d m i k laid i_in k_in =
+    let row : ℕ = owner i d.desc.mb d.desc.rsrc d.grid.p in
+    let col : ℕ = owner k d.desc.nb d.desc.csrc d.grid.q in
+    let within : col < width d.grid = omega (arith, owner-lt k d.desc.nb d.desc.csrc d.grid.q laid.grid.some_columns) in
+    subst (λ r. local i d.desc.mb d.grid.p < strip_rows d r) (sym (row_of-rank_at d.grid row col within)) (local-lt i d.desc.m d.desc.mb row d.desc.rsrc d.grid.p laid.desc.some_block_rows laid.desc.row_source i_in refl)
+
+column-in_strip : (s : Setting) (d : Layout) (m : Matrix) (i k : ℕ) → IsLaidOut s d → k % d.desc.nb < cols (strip_of d m (rank_of_entry d i k) ((k / d.desc.nb) / d.grid.q))
+column-in_strip s d m i k laid = subst (λ c. k % d.desc.nb < c) (sym (cols-tabulate _ d.desc.nb _)) (mod-lt k laid.desc.some_block_columns)
+
 -- ---- what a line of a plain run prints is a matrix of the run
 is_matrix_of_live : (s : Setting) (before what : ℕ) → is_live_matrix s (end_mark before) what ≡ true → is_matrix s what ≡ true
 is_matrix_of_live s before what live = (and_parts (is_matrix s what) (has_ended (end_mark before) what) (and_parts (is_matrix s what && has_ended (end_mark before) what) _ live).0).0
@@ -79,6 +92,8 @@ plain_run-printed s j plain there some shape =
           let i_in : i < (layout s j.prints).desc.m = omega (arith, a, shape.rows) in (
             strip_of (layout s j.prints) (s.files j.prints) (rank_of_entry (layout s j.prints) i k) ((k / (layout s j.prints).desc.nb) / (layout s j.prints).grid.q),
             tile-printed s j i k plain there some laid k_in,
+            row-in_strip s (layout s j.prints) (s.files j.prints) i k laid i_in k_in,
+            column-in_strip s (layout s j.prints) (s.files j.prints) i k laid,
             entry-in_strip s (layout s j.prints) (s.files j.prints) i k laid i_in k_in,
           );
     }

@@ -31,6 +31,7 @@ text_of s ns taken files line (c.Discard name) plain printed = refl
 text_of s ns taken files line (c.Print name) plain printed = record { matrix = files (line_meant ns line 1); printed = printed name refl; text_is = refl }
 text_of s ns taken files line (c.Links n) plain printed = refl
 text_of s ns taken files line (c.Order numbers) plain printed = refl
+text_of s ns taken files line (c.Spares n) plain printed = refl
 text_of s ns taken files line _ plain printed = absurd plain
 
 are_printed : (s : Setting) (ns : List Numbered) (taken : List Took) (files : ℕ → Matrix) (more : List Numbered) → ArePlainCommands ns more

@@ -61,6 +61,7 @@ holds_next ns files known values line (c.Discard own) here plain holds = after_d
 holds_next ns files known values line (c.Print own) here plain holds = record { value_of = holds.value_of }
 holds_next ns files known values line (c.Links n) here plain holds = record { value_of = holds.value_of }
 holds_next ns files known values line (c.Order numbers) here plain holds = record { value_of = holds.value_of }
+holds_next ns files known values line (c.Spares n) here plain holds = record { value_of = holds.value_of }
 holds_next ns files known values line _ here plain holds = absurd plain
 
 -- ---- the text of a command, and of all
@@ -74,6 +75,7 @@ same_said ns files known values line (c.Print own) here made plain holds =
     ap (λ l. matrix_text own (files l)) (line_meant-print ns line own here plain) ∙ sym (ap (value_text own) value)
 same_said ns files known values line (c.Links n) here made plain holds = refl
 same_said ns files known values line (c.Order numbers) here made plain holds = refl
+same_said ns files known values line (c.Spares n) here made plain holds = refl
 same_said ns files known values line _ here made plain holds = absurd plain
 
 same_text : (ns : List Numbered) (files : ℕ → Matrix) (more : List Numbered) (bound : ℕ) (known : List ℕ → Option ℕ) (values : Values) → LinesRise bound more → ArePlainCommands ns more → IsLeft ns more bound known → Holds ns files known values

@@ -110,6 +110,7 @@ own_other told cs line (c.Topology kind) = refl
 own_other told cs line (c.Links n) = refl
 own_other told cs line (c.Order numbers) = refl
 own_other told cs line (c.Lose at rank) = refl
+own_other told cs line (c.Spares n) = refl
 own_other told cs line command = refl
 
 rules_other : (told : Told) (cs : List Numbered) (line : ℕ) (command : Command) → are_others (rules told cs line command) ≡ true

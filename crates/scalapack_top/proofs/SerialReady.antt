@@ -285,6 +285,7 @@ module _ (ns : List Numbered) (files : Matrices) (line : ℕ) (values : Values) 
   may_run (c.Links n) asks = tt
   may_run (c.Order numbers) asks = tt
   may_run (c.Lose at rank) asks = tt
+  may_run (c.Spares n) asks = tt
 
 -- ---- what names mean after the line
 rows-either : (t : Bool) (x y : Matrix) (m : ℕ) → x.rows ≡ m → y.rows ≡ m → (if t then x else y).rows ≡ m
@@ -402,6 +403,7 @@ module _ (ns : List Numbered) (files : Matrices) (line : ℕ) (values : Values) 
   next_fits (c.Links n) e asks = fits
   next_fits (c.Order numbers) e asks = fits
   next_fits (c.Lose at rank) e asks = fits
+  next_fits (c.Spares n) e asks = fits
 
 -- ---- all lines
 module _ (script : List (Option Command)) (files : Matrices) (asked : (line : ℕ) (command : Command) → command_at (commands_of script) line ≡ Some command → Asks (commands_of script) files line command) where

@@ -225,6 +225,7 @@ module _ (script : List (Option Command)) (files : Matrices) (ready : IsReady ma
   asked line (c.Links n) e = tt
   asked line (c.Order numbers) e = tt
   asked line (c.Lose at rank) e = tt
+  asked line (c.Spares n) e = tt
 
   pub can_run : CanRun script files
   can_run = record { ready = ready_all script files asked }

@@ -1,3 +1,4 @@
 pub mod Layouts
 pub mod Lines
+pub mod Live
 pub mod Sound

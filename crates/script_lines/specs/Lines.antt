@@ -21,6 +21,7 @@ setting_on p table = record {
   jobs = map job_seen table;
   capacity = 0;
   losses = [];
+  spares = None;
   files = λ _. zero_matrix 0 0;
 }
 

@@ -8,7 +8,10 @@ mod live;
 
 pub use layouts::{Layout, grids_of, layout_of};
 pub use lines::{Line, lines_of};
-pub use live::{factoring, find, is_live, is_live_list, is_live_matrix, layout_at};
+pub use live::{
+    Groups, factoring, find, is_live, is_live_beside, is_live_list, is_live_matrix, layout_at,
+    live_groups,
+};
 
 #[cfg(test)]
 mod tests;

@@ -1,11 +1,12 @@
 //! Which slots are live under a mark.
-ghost use Rattle.std.specs.Prelude.{◌≡◌, ◌&&◌, ◌==◌, nat_lt, map};
+ghost use Rattle.std.specs.Prelude.{◌≡◌, ◌&&◌, ◌==◌, nat_lt, nat_le, map};
 ghost use Rattle.blacs_grid.specs.Limits.{IsGrid};
 ghost use Rattle.blacs_grid.specs.Places.{is_member, is_data_rank, is_code_rank};
 ghost use Rattle.rank_machine.specs.Setting as machine;
 ghost use Rattle.rank_machine.specs.Effect as effect;
 ghost use Rattle.script_lines.specs.Layouts.{IsLayout, seen};
 ghost use Rattle.script_lines.specs.Lines.{job_seen, setting_on, line_in, is_dropped_by, AreSound};
+ghost use Rattle.script_lines.specs.Live.{is_live_line, first_live, end_of_live, AreLive};
 
 use crate::layouts::Layout;
 use crate::lines::Line;
@@ -142,41 +143,120 @@ fn group_count(layout: &Layout) -> u32
     groups(layout.desc.n, layout.desc.nb, layout.grid.q)
 }
 
+/// The groups of the slots of one kind and one line, from a first one on to before an end.
+#[derive(Clone, Copy)]
+pub struct Groups {
+    pub kind: SlotKind,
+    pub id: u32,
+    pub from: u32,
+    pub to: u32,
+}
+
+// Whether a group is one of these.
+fn has_group(groups: Groups, group: u32) -> bool
+    ensures { result ≡ (nat_le groups.from group && nat_lt group groups.to) }
+{
+    groups.from <= group && group < groups.to
+}
+
+// Whether some slots of a kind and a line may be live on a rank.
+fn is_live_line(table: &[Line], mark: Mark, rank: u32, kind: SlotKind, id: u32) -> bool
+    requires sound { AreSound table.now }
+    ensures { result ≡ is_live_line (setting_on 0 table.now) mark rank id kind }
+{
+    match kind {
+        SlotKind::Data => {
+            is_data_rank(&layout_at(table, id).grid, rank) && is_live_matrix(table, mark, id)
+        }
+        SlotKind::Code => {
+            is_code_rank(&layout_at(table, id).grid, rank) && is_live_matrix(table, mark, id)
+        }
+        SlotKind::Low => {
+            is_code_rank(&layout_at(table, id).grid, rank) && is_factored(table, mark, id)
+        }
+        SlotKind::Open => {
+            is_code_rank(&layout_at(table, id).grid, rank)
+                && is_factored(table, mark, id)
+                && mark.opened
+        }
+        SlotKind::Pivots => {
+            let factored = layout_at(table, find(table, id).factors);
+            factored.grid.coords(rank).is_some() && is_live_list(table, mark, id)
+        }
+        SlotKind::Work => false,
+    }
+}
+
+// The first group that is live where some are.
+fn first_live(mark: Mark, kind: SlotKind) -> u32
+    ensures { result ≡ first_live mark kind }
+{
+    match kind {
+        SlotKind::Low => mark.merged,
+        SlotKind::Data | SlotKind::Code | SlotKind::Open | SlotKind::Pivots | SlotKind::Work => 0,
+    }
+}
+
+// The group after the last that is live where some are.
+fn end_of_live(table: &[Line], kind: SlotKind, id: u32) -> u32
+    requires sound { AreSound table.now }
+    ensures { result ≡ end_of_live (setting_on 0 table.now) id kind }
+{
+    match kind {
+        SlotKind::Data | SlotKind::Code | SlotKind::Low => group_count(&layout_at(table, id)),
+        SlotKind::Open | SlotKind::Pivots => 1,
+        SlotKind::Work => 0,
+    }
+}
+
+/// Which groups of the slots of a kind and a line are live on a rank under a mark.
+pub fn live_groups(table: &[Line], mark: Mark, rank: u32, kind: SlotKind, id: u32) -> Groups
+    requires sound { AreSound table.now }
+    ensures kind { result.kind ≡ kind }
+    ensures id { result.id ≡ id }
+    ensures live { AreLive (setting_on 0 table.now) mark rank result }
+{
+    let (from, to) = if is_live_line(table, mark, rank, kind, id) {
+        (first_live(mark, kind), end_of_live(table, kind, id))
+    } else {
+        (0, 0)
+    };
+    Groups { kind, id, from, to }
+}
+
 /// Whether a slot of a rank is live under a mark.
 pub fn is_live(table: &[Line], mark: Mark, rank: u32, slot: Slot) -> bool
     requires sound { AreSound table.now }
     ensures { result ≡ effect.is_live (setting_on 0 table.now) mark rank slot }
 {
-    let layout = layout_at(table, slot.id);
-    match slot.kind {
-        SlotKind::Data => {
-            is_data_rank(&layout.grid, rank)
-                && slot.group < group_count(&layout)
-                && is_live_matrix(table, mark, slot.id)
-        }
-        SlotKind::Code => {
-            is_code_rank(&layout.grid, rank)
-                && slot.group < group_count(&layout)
-                && is_live_matrix(table, mark, slot.id)
-        }
-        SlotKind::Low => {
-            is_code_rank(&layout.grid, rank)
-                && slot.group < group_count(&layout)
-                && is_factored(table, mark, slot.id)
-                && mark.merged <= slot.group
-        }
-        SlotKind::Open => {
-            is_code_rank(&layout.grid, rank)
-                && slot.group == 0
-                && is_factored(table, mark, slot.id)
-                && mark.opened
-        }
-        SlotKind::Pivots => {
-            let factored = layout_at(table, find(table, slot.id).factors);
-            factored.grid.coords(rank).is_some()
-                && slot.group == 0
-                && is_live_list(table, mark, slot.id)
-        }
-        SlotKind::Work => false,
+    has_group(
+        live_groups(table, mark, rank, slot.kind, slot.id),
+        slot.group,
+    )
+}
+
+/// Whether a slot of a rank is live under a mark, where live groups are known: those of its kind and its line take their place
+/// if they are others, so that slots that stand in order ask the table once a line.
+pub fn is_live_beside(
+    groups: &mut Groups,
+    table: &[Line],
+    mark: Mark,
+    rank: u32,
+    slot: Slot,
+) -> bool
+    requires sound { AreSound table.now }
+    requires known { AreLive (setting_on 0 table.now) mark rank groups.old }
+    ensures live { result ≡ effect.is_live (setting_on 0 table.now) mark rank slot }
+    ensures known { AreLive (setting_on 0 table.now) mark rank groups.new }
+{
+    let beside = Slot {
+        kind: groups.kind,
+        id: groups.id,
+        group: slot.group,
+    };
+    if beside.is(slot) {
+        return has_group(*groups, slot.group);
     }
+    *groups = live_groups(table, mark, rank, slot.kind, slot.id);
+    has_group(*groups, slot.group)
 }

@@ -37,6 +37,7 @@ IsPlainCommand-from_KeepsRules script line (c.Matrix name grid m n mb nb rsrc cs
 IsPlainCommand-from_KeepsRules script line (c.Discard name) h runs e = tt
 IsPlainCommand-from_KeepsRules script line (c.Print name) h runs e = MeansMatrix-from_print script line name h e
 IsPlainCommand-from_KeepsRules script line (c.Links n) h runs e = tt
+IsPlainCommand-from_KeepsRules script line (c.Spares n) h runs e = tt
 IsPlainCommand-from_KeepsRules script line (c.Order numbers) h runs e = tt
 IsPlainCommand-from_KeepsRules script line command h runs e = absurd (false≢true (run_kept script line command runs e))
 

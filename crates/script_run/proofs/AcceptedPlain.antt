@@ -61,7 +61,7 @@ no_loss : (command : Command) → can_run command ≡ true → loss_made command
 no_loss (c.Lose at rank) h = absurd (false≢true h)
 no_loss command h = refl
 
-no_losses-in : (script : List (Option Command)) (more : List Numbered) → first_unrunnable (commands_of script) ≡ None → AreThere (commands_of script) more → losses_in more ≡ []
+pub no_losses-in : (script : List (Option Command)) (more : List Numbered) → first_unrunnable (commands_of script) ≡ None → AreThere (commands_of script) more → losses_in more ≡ []
 no_losses-in script [] runs all = refl
 no_losses-in script (n ∷ more) runs all =
     ap (λ (first : List Loss). first ++ losses_in more) (no_loss n.command (run_kept script n.line n.command runs (there-first (commands_of script) more n all)))

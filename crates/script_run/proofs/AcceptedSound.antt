@@ -7,9 +7,9 @@ use Rattle.run_data.specs.Matrix.{AreWords}
 use Rattle.run_data.specs.declared.command.Command.{Command}
 use Rattle.run_data.specs.declared.command.Command.TheVariants as c
 use Rattle.run_data.specs.Script.{Numbered, commands_of, command_at}
-use Rattle.rank_machine.specs.Setting.{Setting, Job, job, layout, is_matrix}
+use Rattle.rank_machine.specs.declared.record.Loss.{Loss}
+use Rattle.rank_machine.specs.Setting.{Setting, Job, ranks, job, is_matrix}
 use Rattle.rank_machine.specs.Scripts.{Matrices, capacity_after, capacity_from, grids_from, setting_of, file_of}
-use Rattle.script_lines.specs.Layouts.{IsLayout}
 use Rattle.script_lines.specs.Sound.{IsSound}
 use Rattle.script_text.specs.Accepted.{IsAccepted, KeepsRules}
 use Rattle.script_text.specs.Runs.{first_unrunnable}
@@ -18,6 +18,7 @@ use Rattle.script_lines.proofs.JobAt.{job_for, job-in_script}
 use Rattle.script_run.proofs.AcceptedCommands.{AreThere, there-all, there-first, there-later}
 use Rattle.script_run.proofs.AcceptedGrids.{accepted-grids}
 use Rattle.script_run.proofs.AcceptedMatrices.{laid_out}
+use Rattle.script_run.proofs.AcceptedPlain.{no_losses-in}
 
 -- how many messages a link may hold
 abbrev IsCapacity : ℕ → Type 0
@@ -58,6 +59,7 @@ accepted-sound script files accepted runs words =
       layouts = λ line made. let laid = laid_out script files accepted.lines runs line made in record { grid = laid.grid; desc = laid.desc };
       files = words;
       scalars = λ line. subst (λ (l : List ℕ). All (λ a. a < 65537) l) (sym (no_scalars script files line runs)) (All-nil (λ a. a < 65537));
+      of_ranks = subst (All (λ (l : Loss). l.rank < ranks s)) (sym (no_losses-in script (commands_of script) runs (there-all script))) (All-nil (λ (l : Loss). l.rank < ranks s));
       some_messages = capacity.0;
       messages = capacity.1;
     }

@@ -1,5 +1,6 @@
 mod Noting
 mod Placed
+mod NoLosses
 pub mod AcceptedCommands
 pub mod AcceptedGrids
 pub mod AcceptedMatrices

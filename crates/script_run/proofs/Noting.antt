@@ -3,12 +3,13 @@ use Rattle.std.proofs.Common.{◌≡◌, ◌+◌, ◌-◌, ◌<◌, ◌≤◌, �
 use Rattle.std.proofs.lemmas.List.{append-nil}
 use Rattle.std.specs.List.{range_with_len}
 use Rattle.rank_machine.specs.declared.record.Rec.{Rec}
+use Rattle.rank_machine.specs.Setting.{Setting}
 use Rattle.rank_machine.specs.State.{State}
 use Rattle.rank_machine.specs.Effect.{after}
 use Rattle.rank_machine.specs.Legal.{IsLegalRec, IsLegalFrom}
 use Rattle.rank_machine.proofs.Runs.{state_after-push}
 use Rattle.block_world.specs.World.{WorldView, setting_in, state_of, noted, noted_all}
-use Rattle.script_run.specs.Noted.{MayNote}
+use Rattle.script_run.specs.Noted.{HasNoLosses, MayNote}
 
 -- where a world stands after one more record
 pub state_of-noted : (w : WorldView) (r : Rec) → state_of (noted w r) ≡ after (setting_in w) (state_of w) r
@@ -86,6 +87,9 @@ none-left i n le = let e : n - i ≡ 0 = omega (arith, le) in ap (λ k. range_wi
 pub setting-noted_all : (w : WorldView) (rs : List Rec) → setting_in (noted_all w rs) ≡ setting_in w
 setting-noted_all w [] = refl
 setting-noted_all w (r ∷ rs) = setting-noted_all (noted w r) rs
+
+pub no_losses-noted_all : (w new : WorldView) (rs : List Rec) → new ≡ noted_all w rs → HasNoLosses w → HasNoLosses new
+no_losses-noted_all w new rs e none = ap (λ (v : WorldView). (setting_in v).losses) e ∙ ap (λ (s : Setting). s.losses) (setting-noted_all w rs) ∙ none
 
 -- records, and then more of them
 pub then-noted : (w middle new : WorldView) (rs ts : List Rec) → middle ≡ noted_all w rs → new ≡ noted_all middle ts → new ≡ noted_all w (rs ++ ts)

@@ -14,9 +14,6 @@ use Rattle.rank_machine.specs.State.{State}
 use Rattle.rank_machine.specs.Effect.{words_of, strip}
 use Rattle.rank_machine.specs.CodeLaw.{slot_at}
 use Rattle.block_world.specs.World.{WorldView, state_of, noted, noted_all}
-use Rattle.block_world.specs.declared.world.Taken.{Taken}
-use Rattle.block_world.specs.declared.world.Taken.TheVariants as taken
-use Rattle.block_world.specs.Taken.{tile_taken}
 use Rattle.dist_matrix.specs.Strips.{HasShape, HasStripShape, with_strip, with_strips}
 use Rattle.dist_matrix.proofs.StripLaws.{HasStripShape-strip_of, with_strips-append}
 use Rattle.run_records.specs.Records.{Place, feeds, takes}
@@ -42,8 +39,8 @@ tiles-takes [] w other x = refl
 tiles-takes (p ∷ ps) w other x = tiles-takes ps (noted w (r.Take p.rank p.slot)) other x ∙ tiles-take w p.rank p.slot other x
 
 -- the strip that was taken
-pub cut-is : (answer : Taken) (t : Tile) (cut made : Matrix) (tile before : Option Tile) → tile_taken answer ≡ tile → answer ≡ taken.Tile t → t ≡ Words cut → tile ≡ before → before ≡ Some (Words made) → cut ≡ made
-cut-is answer t cut made tile before e f g h k = ap words_of (ap Some (sym g) ∙ sym (ap tile_taken f) ∙ e ∙ h ∙ k)
+pub cut-is : (t : Tile) (cut made : Matrix) (tile before : Option Tile) → tile ≡ Some t → t ≡ Words cut → tile ≡ before → before ≡ Some (Words made) → cut ≡ made
+cut-is t cut made tile before e g h k = ap words_of (ap Some (sym g) ∙ sym e ∙ h ∙ k)
 
 pub strip-shape : (d : Layout) (m cut : Matrix) (rank group : ℕ) → cut ≡ strip_of d m rank group → HasStripShape d rank cut
 strip-shape d m cut rank group e = subst (HasStripShape d rank) (sym e) (HasStripShape-strip_of d m rank group)

@@ -1,5 +1,5 @@
--- Records that are legal from where a world stands, and ranks that hold a matrix.
-use Rattle.std.specs.Prelude.{ℕ, List, [], ◌∷◌, Some, ◌≡◌}
+-- Worlds in which no loss is to fall, records that are legal from where a world stands, and ranks that hold a matrix.
+use Rattle.std.specs.Prelude.{ℕ, List, [], Some, ◌≡◌}
 use Rattle.run_data.specs.Matrix.{Matrix}
 use Rattle.rank_machine.specs.declared.slot.SlotKind.TheVariants.{Data}
 use Rattle.rank_machine.specs.declared.slot.Tile.TheVariants.{Words}
@@ -10,6 +10,10 @@ use Rattle.rank_machine.specs.CodeLaw.{slot_at}
 use Rattle.rank_machine.specs.Legal.{IsLegalFrom}
 use Rattle.block_world.specs.World.{WorldView, setting_in, state_of}
 use Rattle.dist_matrix.specs.Strips.{NamesStrip}
+
+-- no loss is to fall, now or later
+abbrev pub HasNoLosses : WorldView → Type 0
+HasNoLosses w = (setting_in w).losses ≡ []
 
 -- these records are legal from where a world stands
 abbrev pub MayNote : WorldView → List Rec → Type 0

@@ -15,7 +15,7 @@ use Rattle.dist_matrix.specs.Strips.{HasShape}
 use Rattle.run_records.specs.Records.{line_records, run_records}
 use Rattle.run_records.specs.Plain.{IsPlain}
 use Rattle.run_records.specs.RunText.{IsPlainCommand, ArePlainCommands}
-use Rattle.script_lines.specs.Layouts.{AreGrids, jobs_of, makes_matrix, layout_in}
+use Rattle.script_lines.specs.Layouts.{jobs_of, makes_matrix, layout_in}
 use Rattle.script_run.specs.Noted.{MayNote, HoldsMatrix}
 
 -- a matrix line has its file

@@ -6,8 +6,9 @@ ghost use Rattle.block_world.specs.World.{setting_in, noted_all};
 ghost use Rattle.dist_matrix.specs.Strips.{HasShape};
 ghost use Rattle.run_records.specs.Records.{group_places, strip_places, feeds};
 ghost use Rattle.script_lines.specs.Layouts.{IsLayout, seen};
-ghost use Rattle.script_run.specs.Noted.{MayNote};
+ghost use Rattle.script_run.specs.Noted.{HasNoLosses, MayNote};
 
+use crate::steps::feed;
 use array_desc::groups;
 use blacs_grid::Scope;
 use block_world::{Mat, Slot, SlotKind, World};
@@ -30,6 +31,7 @@ fn feed_group(
     requires group_in { group < group_count (seen layout) }
     requires lies_there { machine.layout (setting_in world.old) line ≡ seen layout }
     requires file { (setting_in world.old).files line ≡ m.now }
+    requires no_losses { HasNoLosses world.old }
     requires legal { MayNote world.old (feeds (group_places line (seen layout) group)) }
     ensures { OnOk result (world.new ≡ noted_all world.old (feeds (group_places line (seen layout) group))) }
 {
@@ -41,7 +43,7 @@ fn feed_group(
             id: line,
             group,
         };
-        world.feed(rank, slot, cut)?;
+        feed(world, rank, slot, cut)?;
     }
     Ok(())
 }
@@ -58,6 +60,7 @@ pub fn feed_matrix(
     requires shape { HasShape (seen layout) m.now }
     requires lies_there { machine.layout (setting_in world.old) line ≡ seen layout }
     requires file { (setting_in world.old).files line ≡ m.now }
+    requires no_losses { HasNoLosses world.old }
     requires legal { MayNote world.old (feeds (strip_places line (seen layout))) }
     ensures { OnOk result (world.new ≡ noted_all world.old (feeds (strip_places line (seen layout)))) }
 {

@@ -6,5 +6,6 @@ mod feeding;
 mod lines;
 mod printing;
 mod running;
+mod steps;
 
 pub use running::{Ran, run};

@@ -9,10 +9,11 @@ ghost use Rattle.dist_matrix.specs.Strips.{HasShape};
 ghost use Rattle.serial_model.specs.Text.{matrix_text};
 ghost use Rattle.run_records.specs.Records.{strip_places, feeds, takes};
 ghost use Rattle.script_lines.specs.Layouts.{IsLayout, seen};
-ghost use Rattle.script_run.specs.Noted.{MayNote, HoldsMatrix};
+ghost use Rattle.script_run.specs.Noted.{HasNoLosses, MayNote, HoldsMatrix};
 
 use crate::feeding::feed_matrix;
 use crate::printing::take_matrix;
+use crate::steps::commit;
 use block_world::{Mark, Mat, World};
 use field_core::F65537;
 use script_lines::Layout;
@@ -21,11 +22,11 @@ use std::alloc::{AllocError, Global};
 
 /// Ends a line by its commit.
 pub fn end_line(world: &mut World<'_, F65537>, line: u32) -> Result<(), AllocError>
-    requires { MayNote world.old (Commit (end_mark line) false ∷ []) }
+    requires no_losses { HasNoLosses world.old }
+    requires legal { MayNote world.old (Commit (end_mark line) false ∷ []) }
     ensures { OnOk result (world.new ≡ noted_all world.old (Commit (end_mark line) false ∷ [])) }
 {
-    world.commit(Mark::end_of(line))?;
-    Ok(())
+    commit(world, Mark::end_of(line))
 }
 
 /// Makes a matrix: feeds its strips and ends its line.
@@ -40,6 +41,7 @@ pub fn make_matrix(
     requires shape { HasShape (seen layout) m.now }
     requires lies_there { machine.layout (setting_in world.old) line ≡ seen layout }
     requires file { (setting_in world.old).files line ≡ m.now }
+    requires no_losses { HasNoLosses world.old }
     requires legal { MayNote world.old (feeds (strip_places line (seen layout)) ++ Commit (end_mark line) false ∷ []) }
     ensures { OnOk result (world.new ≡ noted_all world.old (feeds (strip_places line (seen layout)) ++ Commit (end_mark line) false ∷ [])) }
 {
@@ -61,6 +63,7 @@ pub fn print_matrix(
     requires shaped { IsShaped ((setting_in world.old).files what) }
     requires shape { HasShape (seen layout) ((setting_in world.old).files what) }
     requires held { HoldsMatrix (state_of world.old) what (seen layout) ((setting_in world.old).files what) }
+    requires no_losses { HasNoLosses world.old }
     requires legal { MayNote world.old (takes (strip_places what (seen layout)) ++ Commit (end_mark line) false ∷ []) }
     ensures noted { OnOk result (world.new ≡ noted_all world.old (takes (strip_places what (seen layout)) ++ Commit (end_mark line) false ∷ [])) }
     ensures text { OnOk result (out.new.items ≡ out.old.items ++ matrix_text name.now ((setting_in world.old).files what)) }

@@ -6,11 +6,12 @@ ghost use Rattle.block_world.specs.World.{setting_in, state_of, noted_all};
 ghost use Rattle.dist_matrix.specs.Strips.{HasShape, with_strips, strips_of_group};
 ghost use Rattle.run_records.specs.Records.{group_places, strip_places, takes};
 ghost use Rattle.script_lines.specs.Layouts.{IsLayout, seen};
-ghost use Rattle.script_run.specs.Noted.{MayNote, HoldsMatrix};
+ghost use Rattle.script_run.specs.Noted.{HasNoLosses, MayNote, HoldsMatrix};
 
+use crate::steps::take;
 use array_desc::groups;
 use blacs_grid::Scope;
-use block_world::{Mat, Slot, SlotKind, Taken, Tile, World};
+use block_world::{Mat, Slot, SlotKind, Tile, World};
 use dist_matrix::place;
 use field_core::F65537;
 use script_lines::Layout;
@@ -28,6 +29,7 @@ fn take_group(
     requires shape { HasShape (seen layout) whole.old }
     requires group_in { group < group_count (seen layout) }
     requires held { HoldsMatrix (state_of world.old) line (seen layout) ((setting_in world.old).files line) }
+    requires no_losses { HasNoLosses world.old }
     requires legal { MayNote world.old (takes (group_places line (seen layout) group)) }
     ensures noted { OnOk result (world.new ≡ noted_all world.old (takes (group_places line (seen layout) group))) }
     ensures placed { OnOk result (whole.new ≡ with_strips (seen layout) ((setting_in world.old).files line) whole.old (strips_of_group (seen layout) group)) }
@@ -39,10 +41,8 @@ fn take_group(
             id: line,
             group,
         };
-        match world.take(rank, slot)? {
-            Taken::Tile(Tile::Words(cut)) => {
-                place(whole, &layout.desc, &layout.grid, rank, group, &cut)
-            }
+        match take(world, rank, slot)? {
+            Tile::Words(cut) => place(whole, &layout.desc, &layout.grid, rank, group, &cut),
             _ => unreachable!(),
         }
     }
@@ -60,6 +60,7 @@ pub fn take_matrix(
     requires shaped { IsShaped ((setting_in world.old).files line) }
     requires shape { HasShape (seen layout) ((setting_in world.old).files line) }
     requires held { HoldsMatrix (state_of world.old) line (seen layout) ((setting_in world.old).files line) }
+    requires no_losses { HasNoLosses world.old }
     requires legal { MayNote world.old (takes (strip_places line (seen layout))) }
     ensures noted { OnOk result (world.new ≡ noted_all world.old (takes (strip_places line (seen layout)))) }
     ensures whole { IfOk result (λ whole. whole ≡ (setting_in world.old).files line) }

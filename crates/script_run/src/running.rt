@@ -105,6 +105,7 @@ fn run_line(
         Command::Print { name } => run_print(alloc, world, script, grids, line, name.bytes(), out),
         Command::Discard { .. } => end_line(world, line),
         Command::Links { .. } => Ok(()),
+        Command::Spares { .. } => Ok(()),
         Command::Order { .. } => Ok(()),
         _ => unreachable!(),
     }
@@ -121,7 +122,7 @@ pub fn run(alloc: Global, script: &Script, files: &Files, room: u32) -> Result<R
 {
     let lines = script.as_slice();
     let grids = grids_of(alloc, script)?;
-    let mut world = World::open(alloc, script, files, room)?;
+    let mut world = World::open(alloc, script, files, &[], room)?;
     let mut out = Vec::new(alloc);
     for i in 0..script.lines() {
         if let Some(command) = &lines[i as usize] {

@@ -11,7 +11,7 @@ use Rattle.run_data.specs.Script.{Numbered, commands_from, commands_of}
 use Rattle.script_text.specs.declared.counts.Counts.{Counts}
 use Rattle.script_text.specs.declared.rules.TheConstants.{MAX_LIVE, MAX_MATRICES, MAX_PRINTED, MAX_ORDERED}
 use Rattle.script_text.specs.declared.told.Told.{Told}
-use Rattle.script_text.specs.Rules.{total_after, total, ranks_made, matrices_made, matrices_dropped, lists_made, lists_dropped, words_printed, links_set, numbers_ordered, maker_command, is_matrix_line, is_list_line, process_rows, process_columns, matrix_words, ranks_of, matrix_lines, live_matrices, printed_words, link_lines, ordered_numbers, is_order_number, grid_rules, matrix_rules, print_rules, links_rules, order_rules, first_code, own_rules}
+use Rattle.script_text.specs.Rules.{total_after, total, ranks_made, matrices_made, matrices_dropped, lists_made, lists_dropped, words_printed, links_set, spares_set, numbers_ordered, maker_command, is_matrix_line, is_list_line, process_rows, process_columns, matrix_words, ranks_of, matrix_lines, live_matrices, printed_words, link_lines, spares_lines, ordered_numbers, is_order_number, grid_rules, matrix_rules, print_rules, links_rules, spares_rules, order_rules, first_code, own_rules}
 use Rattle.script_text.specs.Counted.{AreCounts}
 use Rattle.script_text.proofs.Keeping.{all_kept}
 
@@ -33,6 +33,7 @@ pub record Adds (counts counts' : Counts) (cs : List Numbered) (line : ℕ) (d :
   pub dropped_lists : counts'.dropped_lists ≡ counts.dropped_lists + lists_dropped cs line d
   pub printed : counts'.printed ≡ counts.printed + words_printed cs line d
   pub links : counts'.links ≡ counts.links + links_set d
+  pub spares : counts'.spares ≡ counts.spares + spares_set d
   pub ordered : counts'.ordered ≡ counts.ordered + numbers_ordered d
 
 -- counts within their limits
@@ -43,6 +44,7 @@ pub record AreFew (counts : Counts) (lines : ℕ) : Type 0 where
   pub lists : counts.lists ≤ lines
   pub dropped_lists : counts.dropped_lists ≤ lines
   pub links : counts.links ≤ 1
+  pub spares : counts.spares ≤ 1
   pub ordered : counts.ordered ≤ MAX_ORDERED
   pub printed : counts.printed ≤ MAX_PRINTED
 
@@ -59,6 +61,7 @@ AreCounts-next counts counts' lines line cs d h adds few =
       dropped_lists = adds.dropped_lists ∙ ap (λ k. k + lists_dropped cs line d) h.dropped_lists ∙ sym (total-append (λ before n. lists_dropped before n.line n.command) cs n);
       printed = adds.printed ∙ ap (λ k. k + words_printed cs line d) h.printed ∙ sym (total-append (λ before n. words_printed before n.line n.command) cs n);
       links = adds.links ∙ ap (λ k. k + links_set d) h.links ∙ sym (total-append (λ before n. links_set n.command) cs n);
+      spares = adds.spares ∙ ap (λ k. k + spares_set d) h.spares ∙ sym (total-append (λ before n. spares_set n.command) cs n);
       ordered = adds.ordered ∙ ap (λ k. k + numbers_ordered d) h.ordered ∙ sym (total-append (λ before n. numbers_ordered n.command) cs n);
       few_ranks = few.ranks;
       few_matrices = few.matrices;
@@ -66,6 +69,7 @@ AreCounts-next counts counts' lines line cs d h adds few =
       few_lists = few.lists;
       few_dropped_lists = few.dropped_lists;
       few_links = few.links;
+      few_spares = few.spares;
       few_ordered = few.ordered;
       few_printed = few.printed;
     }
@@ -80,6 +84,7 @@ AreCounts-more counts lines more cs h le = record {
   dropped_lists = h.dropped_lists;
   printed = h.printed;
   links = h.links;
+  spares = h.spares;
   ordered = h.ordered;
   few_ranks = h.few_ranks;
   few_matrices = h.few_matrices;
@@ -87,6 +92,7 @@ AreCounts-more counts lines more cs h le = record {
   few_lists = omega (arith, h.few_lists);
   few_dropped_lists = omega (arith, h.few_dropped_lists);
   few_links = h.few_links;
+  few_spares = h.few_spares;
   few_ordered = h.few_ordered;
   few_printed = h.few_printed;
 }
@@ -99,6 +105,7 @@ few_of counts lines line cs h next = record {
   lists = omega (arith, h.few_lists);
   dropped_lists = omega (arith, h.few_dropped_lists);
   links = h.few_links;
+  spares = h.few_spares;
   ordered = h.few_ordered;
   printed = h.few_printed;
 }
@@ -112,6 +119,7 @@ pub record CountsNothing (cs : List Numbered) (line : ℕ) (d : Command) : Type 
   pub dropped_lists : lists_dropped cs line d ≡ 0
   pub printed : words_printed cs line d ≡ 0
   pub links : links_set d ≡ 0
+  pub spares : spares_set d ≡ 0
   pub ordered : numbers_ordered d ≡ 0
 
 adds_nothing : (counts : Counts) (cs : List Numbered) (line : ℕ) (d : Command) → CountsNothing cs line d → Adds counts counts cs line d
@@ -123,6 +131,7 @@ adds_nothing counts cs line d h = record {
   dropped_lists = omega (arith, h.dropped_lists);
   printed = omega (arith, h.printed);
   links = omega (arith, h.links);
+  spares = omega (arith, h.spares);
   ordered = omega (arith, h.ordered);
 }
 
@@ -132,16 +141,17 @@ AreCounts-same counts lines line cs d h next none = AreCounts-next counts counts
 
 pub CountsNothing-from_others : (cs : List Numbered) (line : ℕ) (d : Command) → ((n : List ℕ) (p q f : ℕ) → d ≡ c.Grid n p q f → ⊥) →
     ((n g : List ℕ) (m k mb nb rsrc csrc : ℕ) (file : List ℕ) → d ≡ c.Matrix n g m k mb nb rsrc csrc file → ⊥) → ((m n : ℕ) (a : List ℕ) (ia ja : ℕ) (v : List ℕ) → d ≡ c.Pgetrf m n a ia ja v → ⊥) →
-    ((n : List ℕ) → d ≡ c.Print n → ⊥) → ((n : List ℕ) → d ≡ c.Discard n → ⊥) → ((n : ℕ) → d ≡ c.Links n → ⊥) → ((numbers : List ℕ) → d ≡ c.Order numbers → ⊥) → CountsNothing cs line d
-CountsNothing-from_others cs line (c.Grid n p q f) grid matrix list print discard links order = absurd (grid n p q f refl)
-CountsNothing-from_others cs line (c.Matrix n g m k mb nb rsrc csrc file) grid matrix list print discard links order = absurd (matrix n g m k mb nb rsrc csrc file refl)
-CountsNothing-from_others cs line (c.Pgetrf m n a ia ja v) grid matrix list print discard links order = absurd (list m n a ia ja v refl)
-CountsNothing-from_others cs line (c.Print n) grid matrix list print discard links order = absurd (print n refl)
-CountsNothing-from_others cs line (c.Discard n) grid matrix list print discard links order = absurd (discard n refl)
-CountsNothing-from_others cs line (c.Links n) grid matrix list print discard links order = absurd (links n refl)
-CountsNothing-from_others cs line (c.Order numbers) grid matrix list print discard links order = absurd (order numbers refl)
-CountsNothing-from_others cs line d grid matrix list print discard links order =
-    record { ranks = refl; matrices = refl; dropped = refl; lists = refl; dropped_lists = refl; printed = refl; links = refl; ordered = refl }
+    ((n : List ℕ) → d ≡ c.Print n → ⊥) → ((n : List ℕ) → d ≡ c.Discard n → ⊥) → ((n : ℕ) → d ≡ c.Links n → ⊥) → ((n : ℕ) → d ≡ c.Spares n → ⊥) → ((numbers : List ℕ) → d ≡ c.Order numbers → ⊥) → CountsNothing cs line d
+CountsNothing-from_others cs line (c.Grid n p q f) grid matrix list print discard links spares order = absurd (grid n p q f refl)
+CountsNothing-from_others cs line (c.Matrix n g m k mb nb rsrc csrc file) grid matrix list print discard links spares order = absurd (matrix n g m k mb nb rsrc csrc file refl)
+CountsNothing-from_others cs line (c.Pgetrf m n a ia ja v) grid matrix list print discard links spares order = absurd (list m n a ia ja v refl)
+CountsNothing-from_others cs line (c.Print n) grid matrix list print discard links spares order = absurd (print n refl)
+CountsNothing-from_others cs line (c.Discard n) grid matrix list print discard links spares order = absurd (discard n refl)
+CountsNothing-from_others cs line (c.Links n) grid matrix list print discard links spares order = absurd (links n refl)
+CountsNothing-from_others cs line (c.Spares n) grid matrix list print discard links spares order = absurd (spares n refl)
+CountsNothing-from_others cs line (c.Order numbers) grid matrix list print discard links spares order = absurd (order numbers refl)
+CountsNothing-from_others cs line d grid matrix list print discard links spares order =
+    record { ranks = refl; matrices = refl; dropped = refl; lists = refl; dropped_lists = refl; printed = refl; links = refl; spares = refl; ordered = refl }
 
 and_right : (a b : Bool) → (a && b) ≡ true → b ≡ true
 and_right true b e = e
@@ -172,7 +182,7 @@ counts_grid told counts lines line cs d name p q f e h next kept =
     let few = few_of counts lines line cs h next in
     subst (CountWith (record counts { ranks = counts.ranks + p * (q + f) }) cs line) (sym e)
     (AreCounts-next counts (record counts { ranks = counts.ranks + p * (q + f) }) lines line cs known h
-    (record { ranks = refl; matrices = omega arith; dropped = omega arith; lists = omega arith; dropped_lists = omega arith; printed = omega arith; links = omega arith; ordered = omega arith })
+    (record { ranks = refl; matrices = omega arith; dropped = omega arith; lists = omega arith; dropped_lists = omega arith; printed = omega arith; links = omega arith; spares = omega arith; ordered = omega arith })
     (record {
       ranks = grid_ranks told counts lines line cs name p q f h (subst (KeepsOwn told cs line) e kept);
       matrices = few.matrices;
@@ -180,6 +190,7 @@ counts_grid told counts lines line cs d name p q f e h next kept =
       lists = few.lists;
       dropped_lists = few.dropped_lists;
       links = few.links;
+      spares = few.spares;
       ordered = few.ordered;
       printed = few.printed;
     }))
@@ -200,7 +211,7 @@ counts_matrix told counts lines line cs d name grid m n mb nb rsrc csrc file e h
     let few = few_of counts lines line cs h next in
     subst (CountWith (record counts { matrices = counts.matrices + 1 }) cs line) (sym e)
     (AreCounts-next counts (record counts { matrices = counts.matrices + 1 }) lines line cs known h
-    (record { ranks = omega arith; matrices = refl; dropped = omega arith; lists = omega arith; dropped_lists = omega arith; printed = omega arith; links = omega arith; ordered = omega arith })
+    (record { ranks = omega arith; matrices = refl; dropped = omega arith; lists = omega arith; dropped_lists = omega arith; printed = omega arith; links = omega arith; spares = omega arith; ordered = omega arith })
     (record {
       ranks = few.ranks;
       matrices = matrix_few told counts lines line cs name grid m n mb nb rsrc csrc file h (subst (KeepsOwn told cs line) e kept);
@@ -208,6 +219,7 @@ counts_matrix told counts lines line cs d name grid m n mb nb rsrc csrc file e h
       lists = few.lists;
       dropped_lists = few.dropped_lists;
       links = few.links;
+      spares = few.spares;
       ordered = few.ordered;
       printed = few.printed;
     }))
@@ -219,7 +231,7 @@ counts_list told counts lines line cs d m n a ia ja v e h next kept =
     let few = few_of counts lines line cs h next in
     subst (CountWith (record counts { lists = counts.lists + 1 }) cs line) (sym e)
     (AreCounts-next counts (record counts { lists = counts.lists + 1 }) lines line cs known h
-    (record { ranks = omega arith; matrices = omega arith; dropped = omega arith; lists = refl; dropped_lists = omega arith; printed = omega arith; links = omega arith; ordered = omega arith })
+    (record { ranks = omega arith; matrices = omega arith; dropped = omega arith; lists = refl; dropped_lists = omega arith; printed = omega arith; links = omega arith; spares = omega arith; ordered = omega arith })
     (record {
       ranks = few.ranks;
       matrices = few.matrices;
@@ -227,6 +239,7 @@ counts_list told counts lines line cs d m n a ia ja v e h next kept =
       lists = omega (arith, h.few_lists);
       dropped_lists = few.dropped_lists;
       links = few.links;
+      spares = few.spares;
       ordered = few.ordered;
       printed = few.printed;
     }))
@@ -244,7 +257,7 @@ counts_print told counts lines line cs d name e h next kept =
     let few = few_of counts lines line cs h next in
     subst (CountWith (record counts { printed = counts.printed + words_printed cs line (c.Print name) }) cs line) (sym e)
     (AreCounts-next counts (record counts { printed = counts.printed + words_printed cs line (c.Print name) }) lines line cs known h
-    (record { ranks = omega arith; matrices = omega arith; dropped = omega arith; lists = omega arith; dropped_lists = omega arith; printed = refl; links = omega arith; ordered = omega arith })
+    (record { ranks = omega arith; matrices = omega arith; dropped = omega arith; lists = omega arith; dropped_lists = omega arith; printed = refl; links = omega arith; spares = omega arith; ordered = omega arith })
     (record {
       ranks = few.ranks;
       matrices = few.matrices;
@@ -252,6 +265,7 @@ counts_print told counts lines line cs d name e h next kept =
       lists = few.lists;
       dropped_lists = few.dropped_lists;
       links = few.links;
+      spares = few.spares;
       ordered = few.ordered;
       printed = print_few told counts lines line cs name h (subst (KeepsOwn told cs line) e kept);
     }))
@@ -268,7 +282,7 @@ counts_links told counts lines line cs d n e h next kept =
     let few = few_of counts lines line cs h next in
     subst (CountWith (record counts { links = counts.links + 1 }) cs line) (sym e)
     (AreCounts-next counts (record counts { links = counts.links + 1 }) lines line cs known h
-    (record { ranks = omega arith; matrices = omega arith; dropped = omega arith; lists = omega arith; dropped_lists = omega arith; printed = omega arith; links = refl; ordered = omega arith })
+    (record { ranks = omega arith; matrices = omega arith; dropped = omega arith; lists = omega arith; dropped_lists = omega arith; printed = omega arith; links = refl; spares = omega arith; ordered = omega arith })
     (record {
       ranks = few.ranks;
       matrices = few.matrices;
@@ -276,6 +290,32 @@ counts_links told counts lines line cs d n e h next kept =
       lists = few.lists;
       dropped_lists = few.dropped_lists;
       links = links_few told counts lines line cs n h (subst (KeepsOwn told cs line) e kept);
+      spares = few.spares;
+      ordered = few.ordered;
+      printed = few.printed;
+    }))
+
+spares_few : (told : Told) (counts : Counts) (lines line : ℕ) (cs : List Numbered) (n : ℕ) → AreCounts counts lines cs → KeepsOwn told cs line (c.Spares n) → counts.spares + 1 ≤ 1
+spares_few told counts lines line cs n h kept =
+    let none = eqb-true (spares_lines cs) 0 (all_kept (spares_rules (spares_lines cs) n) kept).1.0 in
+    omega (arith, none, h.spares)
+
+pub counts_spares : (told : Told) (counts : Counts) (lines line : ℕ) (cs : List Numbered) (d : Command) (n : ℕ) → d ≡ c.Spares n → AreCounts counts lines cs → line ≡ suc lines → KeepsOwn told cs line d →
+    CountWith (record counts { spares = counts.spares + 1 }) cs line d
+counts_spares told counts lines line cs d n e h next kept =
+    let known = c.Spares n in
+    let few = few_of counts lines line cs h next in
+    subst (CountWith (record counts { spares = counts.spares + 1 }) cs line) (sym e)
+    (AreCounts-next counts (record counts { spares = counts.spares + 1 }) lines line cs known h
+    (record { ranks = omega arith; matrices = omega arith; dropped = omega arith; lists = omega arith; dropped_lists = omega arith; printed = omega arith; links = omega arith; spares = refl; ordered = omega arith })
+    (record {
+      ranks = few.ranks;
+      matrices = few.matrices;
+      dropped = few.dropped;
+      lists = few.lists;
+      dropped_lists = few.dropped_lists;
+      links = few.links;
+      spares = spares_few told counts lines line cs n h (subst (KeepsOwn told cs line) e kept);
       ordered = few.ordered;
       printed = few.printed;
     }))
@@ -293,7 +333,7 @@ counts_order told counts lines line cs d numbers e h next kept =
     let few = few_of counts lines line cs h next in
     subst (CountWith (record counts { ordered = counts.ordered + length numbers }) cs line) (sym e)
     (AreCounts-next counts (record counts { ordered = counts.ordered + length numbers }) lines line cs known h
-    (record { ranks = omega arith; matrices = omega arith; dropped = omega arith; lists = omega arith; dropped_lists = omega arith; printed = omega arith; links = omega arith; ordered = refl })
+    (record { ranks = omega arith; matrices = omega arith; dropped = omega arith; lists = omega arith; dropped_lists = omega arith; printed = omega arith; links = omega arith; spares = omega arith; ordered = refl })
     (record {
       ranks = few.ranks;
       matrices = few.matrices;
@@ -301,6 +341,7 @@ counts_order told counts lines line cs d numbers e h next kept =
       lists = few.lists;
       dropped_lists = few.dropped_lists;
       links = few.links;
+      spares = few.spares;
       ordered = order_few told counts lines line cs numbers h (subst (KeepsOwn told cs line) e kept);
       printed = few.printed;
     }))
@@ -326,6 +367,7 @@ counts_dropped_matrix counts lines line cs name h next t =
       dropped_lists = plus_none counts.dropped_lists (is_list_line (maker_command cs line name)) l;
       printed = omega arith;
       links = omega arith;
+      spares = omega arith;
       ordered = omega arith;
     })
     (record {
@@ -335,6 +377,7 @@ counts_dropped_matrix counts lines line cs name h next t =
       lists = few.lists;
       dropped_lists = few.dropped_lists;
       links = few.links;
+      spares = few.spares;
       ordered = few.ordered;
       printed = few.printed;
     })
@@ -352,6 +395,7 @@ counts_dropped_list counts lines line cs name h next m t =
       dropped_lists = sym (ap (λ b. counts.dropped_lists + cond b 1 0) t);
       printed = omega arith;
       links = omega arith;
+      spares = omega arith;
       ordered = omega arith;
     })
     (record {
@@ -361,6 +405,7 @@ counts_dropped_list counts lines line cs name h next m t =
       lists = few.lists;
       dropped_lists = omega (arith, h.few_dropped_lists);
       links = few.links;
+      spares = few.spares;
       ordered = few.ordered;
       printed = few.printed;
     })
@@ -376,6 +421,7 @@ counts_dropped_none counts lines line cs name h next m l =
       dropped_lists = ap (λ b. cond b 1 0) l;
       printed = refl;
       links = refl;
+      spares = refl;
       ordered = refl;
     })
 

@@ -20,7 +20,7 @@ use Rattle.script_text.specs.declared.rules.TheConstants.{MAX_LINES}
 use Rattle.script_text.specs.Numbers.{number_of}
 use Rattle.script_text.specs.Kinds.{command_word, kinds_of, takes_more, has_count}
 use Rattle.script_text.specs.Rules.{first_code, word_rules, words_code, is_number, more_rules, rules}
-use Rattle.script_text.specs.Commands.{◌>>=◌, word_at, number_at, grid_of, matrix_of, pgemm_of, ptrsm_of, pgetrf_of, pgetrs_of, pgemr2d_of, links_of, numbers_of, order_of, lose_of, command_as, command_of}
+use Rattle.script_text.specs.Commands.{◌>>=◌, word_at, number_at, grid_of, matrix_of, pgemm_of, ptrsm_of, pgetrf_of, pgetrs_of, pgemr2d_of, links_of, numbers_of, order_of, lose_of, spares_line_of, command_as, command_of}
 use Rattle.script_text.specs.Script.{refused, command_code, form_code_of, form_code, rule_code, line_code, answer_by, line_answer, and_then, script_after, word_lines, bounded, script_of}
 use Rattle.script_text.specs.Bounds.{bound}
 use Rattle.script_text.specs.declared.bounds.TheConstants.{MAX_RECORDS}
@@ -98,6 +98,7 @@ word_of (c.Topology kind) = w.Topology
 word_of (c.Links n) = w.Links
 word_of (c.Order numbers) = w.Order
 word_of (c.Lose at rank) = w.Lose
+word_of (c.Spares n) = w.Spares
 
 -- what the form of a line says of its command: its word, its names and its count
 pub record IsFormed (script : List (Option Command)) (word : CommandWord) (d : Command) : Type 0 where
@@ -127,7 +128,7 @@ word_kept script w first others n e j kind k = words_code-at (commands_of script
 
 -- a command whose names break no rule
 kept_form : (script : List (Option Command)) (first : List ℕ) (others : List (List ℕ)) (w : CommandWord) (d : Command) → Formed script w others → command_as (Some w) (first ∷ others) ≡ Some d → IsFormed script w d
-unfolding command_as grid_of matrix_of pgemm_of ptrsm_of pgetrf_of pgetrs_of pgemr2d_of links_of order_of lose_of
+unfolding command_as grid_of matrix_of pgemm_of ptrsm_of pgetrf_of pgetrs_of pgemr2d_of links_of order_of lose_of spares_line_of
 kept_form script first others w.Grid d h e =
     let count : 4 ≡ length others = sym (eqb-true (length others) 4 h.count) in
     let kept = word_kept script w.Grid first others count h.words in
@@ -224,6 +225,9 @@ kept_form script first others w.Lose d h e =
     bind_then (number_at (first ∷ others) 1) _ d (IsFormed script w.Lose d) e (λ x1 t1 e1.
     bind_then (number_at (first ∷ others) 2) _ d (IsFormed script w.Lose d) e1 (λ x2 t2 e2.
     subst (IsFormed script w.Lose) (same_Some (c.Lose x1 x2) d e2) (record { same = refl; count = refl; names = refl })))
+kept_form script first others w.Spares d h e =
+    bind_then (number_at (first ∷ others) 1) _ d (IsFormed script w.Spares d) e (λ x1 t1 e1.
+    subst (IsFormed script w.Spares) (same_Some (c.Spares x1) d e1) (record { same = refl; count = refl; names = refl }))
 
 -- ---- a line that breaks no rule
 
@@ -281,7 +285,7 @@ numbers_there (word ∷ words) t =
     some_bound (number_of word) _ both.0 (λ n. some_bound (numbers_of words) _ (numbers_there words both.1) (λ ns. refl))
 
 spelled : (script : List (Option Command)) (first : List ℕ) (others : List (List ℕ)) (w : CommandWord) → Formed script w others → is_some (command_as (Some w) (first ∷ others)) ≡ true
-unfolding command_as grid_of matrix_of pgemm_of ptrsm_of pgetrf_of pgetrs_of pgemr2d_of links_of order_of lose_of
+unfolding command_as grid_of matrix_of pgemm_of ptrsm_of pgetrf_of pgetrs_of pgemr2d_of links_of order_of lose_of spares_line_of
 spelled script first others w.Grid h =
     let count : 4 ≡ length others = sym (eqb-true (length others) 4 h.count) in
     let number = number_there script w.Grid first others count h.words in
@@ -323,6 +327,10 @@ spelled script first others w.Lose h =
     let count : 2 ≡ length others = sym (eqb-true (length others) 2 h.count) in
     let number = number_there script w.Lose first others count h.words in
     some_bound _ _ (number 0 refl) (λ x0. some_bound _ _ (number 1 refl) (λ x1. refl))
+spelled script first others w.Spares h =
+    let count : 1 ≡ length others = sym (eqb-true (length others) 1 h.count) in
+    let number = number_there script w.Spares first others count h.words in
+    some_bound _ _ (number 0 refl) (λ x0. refl)
 
 spelled_by : (script : List (Option Command)) (first : List ℕ) (others : List (List ℕ)) (o : Option CommandWord) → command_code script o others ≡ None → is_some (command_as o (first ∷ others)) ≡ true
 spelled_by script first others None e = absurd cc

@@ -1,7 +1,6 @@
 pub mod Cuts
 pub mod Rows
 pub mod Texts
-pub mod Words
 pub mod Tables
 pub mod Numbering
 pub mod Examples

@@ -1,5 +1,5 @@
 -- Tables of rules: one after another, and one table after another.
-use Rattle.std.proofs.Common.{◌≡◌, ℕ, zero, suc, ◌+◌, ◌<◌, Bool, true, false, List, [], ◌∷◌, ◌++◌, length, drop, get_or, Some, refl, ap, ◌∙◌, arith}
+use Rattle.std.proofs.Common.{◌≡◌, ℕ, zero, suc, ◌+◌, ◌<◌, Bool, true, false, List, [], ◌∷◌, ◌++◌, length, drop, get_or, Option, Some, None, refl, sym, ap, ◌∙◌, arith}
 use Rattle.std.specs.Prelude.{ℤ}
 use Rattle.std.specs.Option.{option_or}
 use Rattle.script_text.specs.Rules.{first_code}
@@ -12,6 +12,13 @@ first_code-append (x ∷ xs) ys = by_test x.1 (first_code-append xs ys)
     by_test : (kept : Bool) → first_code (xs ++ ys) ≡ option_or (first_code xs) (first_code ys) → first_code ((x.0, kept) ∷ xs ++ ys) ≡ option_or (first_code ((x.0, kept) ∷ xs)) (first_code ys)
     by_test true e = e
     by_test false e = refl
+
+-- a rule of the first table is broken, and none is
+pub first_code-first : (xs ys : List (ℤ × Bool)) (a : Option ℤ) (code : ℤ) → a ≡ first_code xs → a ≡ Some code → a ≡ first_code (xs ++ ys)
+first_code-first xs ys a code e s = s ∙ sym (first_code-append xs ys ∙ ap (λ o. option_or o (first_code ys)) (sym e ∙ s))
+
+pub first_code-second : (xs ys : List (ℤ × Bool)) (a b : Option ℤ) → a ≡ first_code xs → a ≡ None → b ≡ first_code ys → b ≡ first_code (xs ++ ys)
+first_code-second xs ys a b e n f = f ∙ sym (first_code-append xs ys ∙ ap (λ o. option_or o (first_code ys)) (sym e ∙ n))
 
 -- the rules from one on, where it is kept and where it is not
 pub first_code-kept : (rules : List (ℤ × Bool)) (i : ℕ) (d : ℤ × Bool) → i < length rules → (get_or rules i d).1 ≡ true → first_code (drop i rules) ≡ first_code (drop (i + 1) rules)

@@ -48,6 +48,7 @@ spelling w.Topology = codes "topology"
 spelling w.Links = codes "links"
 spelling w.Order = codes "order"
 spelling w.Lose = codes "lose"
+spelling w.Spares = codes "spares"
 
 abbrev AllSpelled : List (List ℕ × CommandWord) → Type 0
 AllSpelled [] = Unit {0}
@@ -67,7 +68,7 @@ unfolding command_word
 command_word-spelled word x e = by_own (command_in own_words word) refl e
   where
     by_own : (o : Option CommandWord) → command_in own_words word ≡ o → option_or o (command_in routine_words word) ≡ Some x → word ≡ spelling x
-    by_own (Some y) o e = command_in-spelled own_words word x (refl, (refl, (refl, (refl, (refl, (refl, (refl, (refl, (refl, tt))))))))) (o ∙ e)
+    by_own (Some y) o e = command_in-spelled own_words word x (refl, (refl, (refl, (refl, (refl, (refl, (refl, (refl, (refl, (refl, tt)))))))))) (o ∙ e)
     by_own None o e = command_in-spelled routine_words word x (refl, (refl, (refl, (refl, (refl, tt))))) e
 
 -- ---- the ranks of a line

@@ -125,6 +125,12 @@ lose_of words = do
   rank ← number_at words 2
   Some (c.Lose at rank)
 
+-- `spares n`
+unfoldable pub spares_line_of : List (List ℕ) → Option Command
+spares_line_of words = do
+  n ← number_at words 1
+  Some (c.Spares n)
+
 -- the command of a line, by its first word
 unfoldable pub command_as : Option CommandWord → List (List ℕ) → Option Command
 command_as (Some w.Grid) words = grid_of words
@@ -141,6 +147,7 @@ command_as (Some w.Topology) words = Some (c.Topology (word_at words 1))
 command_as (Some w.Links) words = links_of words
 command_as (Some w.Order) words = order_of words
 command_as (Some w.Lose) words = lose_of words
+command_as (Some w.Spares) words = spares_line_of words
 command_as None words = None
 
 -- the command that a line spells; a line without words has none

@@ -5,7 +5,7 @@ use Rattle.run_data.specs.Script.{Numbered, commands_of}
 use Rattle.blacs_grid.specs.declared.TheConstants.{MAX_RANKS}
 use Rattle.script_text.specs.declared.counts.Counts.{Counts}
 use Rattle.script_text.specs.declared.rules.TheConstants.{MAX_MATRICES, MAX_PRINTED, MAX_ORDERED}
-use Rattle.script_text.specs.Rules.{ranks_of, matrix_lines, dropped_matrices, list_lines, dropped_lists, printed_words, link_lines, ordered_numbers}
+use Rattle.script_text.specs.Rules.{ranks_of, matrix_lines, dropped_matrices, list_lines, dropped_lists, printed_words, link_lines, spares_lines, ordered_numbers}
 
 -- the commands of the lines before a line
 abbrev pub commands_before : List (Option Command) → ℕ → List Numbered
@@ -20,6 +20,7 @@ pub record AreCounts (counts : Counts) (lines : ℕ) (cs : List Numbered) : Type
   pub dropped_lists : counts.dropped_lists ≡ dropped_lists cs
   pub printed : counts.printed ≡ printed_words cs
   pub links : counts.links ≡ link_lines cs
+  pub spares : counts.spares ≡ spares_lines cs
   pub ordered : counts.ordered ≡ ordered_numbers cs
   pub few_ranks : counts.ranks ≤ MAX_RANKS
   pub few_matrices : counts.matrices ≤ MAX_MATRICES
@@ -27,5 +28,6 @@ pub record AreCounts (counts : Counts) (lines : ℕ) (cs : List Numbered) : Type
   pub few_lists : counts.lists ≤ lines
   pub few_dropped_lists : counts.dropped_lists ≤ lines
   pub few_links : counts.links ≤ 1
+  pub few_spares : counts.spares ≤ 1
   pub few_ordered : counts.ordered ≤ MAX_ORDERED
   pub few_printed : counts.printed ≤ MAX_PRINTED

@@ -11,7 +11,7 @@ use Rattle.script_text.specs.declared.kinds.Kind.TheVariants.{NewName, GridName,
 abbrev pub own_words : List (List ℕ × CommandWord)
 own_words =
     (codes "grid", w.Grid) ∷ (codes "matrix", w.Matrix) ∷ (codes "print", w.Print) ∷ (codes "pivots", w.Pivots) ∷ (codes "drop", w.Discard)
-    ∷ (codes "topology", w.Topology) ∷ (codes "links", w.Links) ∷ (codes "order", w.Order) ∷ (codes "lose", w.Lose) ∷ []
+    ∷ (codes "topology", w.Topology) ∷ (codes "links", w.Links) ∷ (codes "order", w.Order) ∷ (codes "lose", w.Lose) ∷ (codes "spares", w.Spares) ∷ []
 
 -- the routines of the library
 abbrev pub routine_words : List (List ℕ × CommandWord)
@@ -44,6 +44,7 @@ kinds_of w.Topology = Letter ∷ []
 kinds_of w.Links = Number ∷ []
 kinds_of w.Order = Number ∷ []
 kinds_of w.Lose = Number ∷ Number ∷ []
+kinds_of w.Spares = Number ∷ []
 
 -- whether further words may follow, of the last one's kind
 abbrev pub takes_more : CommandWord → Bool

@@ -142,6 +142,10 @@ abbrev pub links_set : Command → ℕ
 links_set (c.Links n) = 1
 links_set _ = 0
 
+abbrev pub spares_set : Command → ℕ
+spares_set (c.Spares n) = 1
+spares_set _ = 0
+
 abbrev pub numbers_ordered : Command → ℕ
 numbers_ordered (c.Order numbers) = length numbers
 numbers_ordered _ = 0
@@ -182,6 +186,10 @@ live_lists cs = list_lines cs - dropped_lists cs
 -- the `links` lines
 abbrev pub link_lines : List Numbered → ℕ
 link_lines cs = total (λ before n. links_set n.command) cs
+
+-- the `spares` lines
+abbrev pub spares_lines : List Numbered → ℕ
+spares_lines cs = total (λ before n. spares_set n.command) cs
 
 -- the numbers of all `order` lines
 abbrev pub ordered_numbers : List Numbered → ℕ
@@ -226,6 +234,9 @@ order_rules ordered numbers = (pos 8, list_all is_order_number numbers && nat_le
 abbrev pub lose_rules : ℕ → ℕ → List (ℤ × Bool)
 lose_rules ranks rank = (pos 8, nat_lt rank ranks) ∷ []
 
+abbrev pub spares_rules : ℕ → ℕ → List (ℤ × Bool)
+spares_rules lines n = (pos 8, nat_le n 4096) ∷ (pos 21, lines == 0) ∷ []
+
 -- the rules of each routine on a line, by the matrices that its names mean; another command has none of them
 abbrev pub pgemm_line : List Numbered → ℕ → Command → List (ℤ × Bool)
 pgemm_line cs line (c.Pgemm transa transb m n k alpha a ia ja b ib jb beta x ic jc) =
@@ -265,6 +276,7 @@ own_rules told cs line (c.Topology kind) = topology_rules kind
 own_rules told cs line (c.Links n) = links_rules (link_lines cs) n
 own_rules told cs line (c.Order numbers) = order_rules (ordered_numbers cs) numbers
 own_rules told cs line (c.Lose at rank) = lose_rules told.ranks rank
+own_rules told cs line (c.Spares n) = spares_rules (spares_lines cs) n
 own_rules told cs line _ = []
 
 -- the rules of a command on a line, after those of its words: of the routine, and then of what a script may hold; what the whole script

@@ -12,6 +12,7 @@ can_run (c.Print name) = true
 can_run (c.Discard name) = true
 can_run (c.Links n) = true
 can_run (c.Order numbers) = true
+can_run (c.Spares n) = true
 can_run _ = false
 
 -- the first line that they can't run

@@ -1,7 +1,7 @@
 //! The lines of a script as commands.
 ghost use Rattle.std.specs.Prelude.{◌≡◌, IfOk};
 ghost use Rattle.script_text.specs.Kinds.{command_word};
-ghost use Rattle.script_text.specs.Commands.{word_at, number_at, grid_of, matrix_of, links_of, numbers_of, order_of, lose_of, command_as, command_of};
+ghost use Rattle.script_text.specs.Commands.{word_at, number_at, grid_of, matrix_of, links_of, numbers_of, order_of, lose_of, spares_line_of, command_as, command_of};
 
 use crate::kinds::{CommandWord, command_word};
 use crate::numbers::number_of;
@@ -104,6 +104,14 @@ fn lose_of(words: &[Word]) -> Option<Command>
     Some(Command::Lose { at, rank })
 }
 
+#[tactic(auto, unfolding(crate::specs::Commands::spares_line_of))]
+fn spares_line_of(words: &[Word]) -> Option<Command>
+    ensures { result ≡ spares_line_of words.now }
+{
+    let n = number_at(words, 1)?;
+    Some(Command::Spares { n })
+}
+
 // The numbers that words are, if all of them are numbers.
 fn numbers_of(alloc: Global, words: &[Word]) -> Result<Option<IndexList>, NoMemory>
     ensures { IfOk result (λ ns. ns ≡ numbers_of words.now) }
@@ -167,6 +175,7 @@ fn command_as(
         Some(CommandWord::Links) => Ok(links_of(words)),
         Some(CommandWord::Order) => order_of(alloc, words),
         Some(CommandWord::Lose) => Ok(lose_of(words)),
+        Some(CommandWord::Spares) => Ok(spares_line_of(words)),
         None => Ok(None),
     }
 }

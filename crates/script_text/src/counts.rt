@@ -9,7 +9,7 @@ use crate::layouts::layout_of;
 use crate::routines::routine_code;
 use crate::rules::{
     grid_code, grid_shape, is_list, is_matrix, links_code, list_code, lose_code, matrix_code,
-    matrix_words, order_code, print_code, topology_code,
+    matrix_words, order_code, print_code, spares_code, topology_code,
 };
 use crate::told::Told;
 use run_data::{Command, Script};
@@ -31,6 +31,8 @@ pub struct Counts {
     pub printed: u64,
     /// The `links` lines.
     pub links: u32,
+    /// The `spares` lines.
+    pub spares: u32,
     /// The numbers of all `order` lines.
     pub ordered: u32,
 }
@@ -48,6 +50,7 @@ impl Counts {
             dropped_lists: 0,
             printed: 0,
             links: 0,
+            spares: 0,
             ordered: 0,
         }
     }
@@ -86,6 +89,7 @@ impl Counts {
             Command::Links { n } => links_code(self.links, *n),
             Command::Order { numbers } => order_code(self.ordered, numbers),
             Command::Lose { rank, .. } => lose_code(told.ranks, *rank),
+            Command::Spares { n } => spares_code(self.spares, *n),
             _ => None,
         }
     }
@@ -140,6 +144,10 @@ impl Counts {
             Command::Discard { name } => self.without(script, line, name.bytes()),
             Command::Links { .. } => Counts {
                 links: self.links + 1,
+                ..self
+            },
+            Command::Spares { .. } => Counts {
+                spares: self.spares + 1,
                 ..self
             },
             Command::Order { numbers } => Counts {

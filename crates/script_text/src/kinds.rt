@@ -20,6 +20,7 @@ pub enum CommandWord {
     Links,
     Order,
     Lose,
+    Spares,
 }
 
 /// What a word of a line stands for.
@@ -157,6 +158,7 @@ impl CommandWord {
             CommandWord::Links => &NUMBER,
             CommandWord::Order => &NUMBER,
             CommandWord::Lose => &LOSE,
+            CommandWord::Spares => &NUMBER,
         }
     }
 
@@ -209,6 +211,8 @@ fn own_word(word: &[u8]) -> Option<CommandWord>
         Some(CommandWord::Order)
     } else if is(word, b"lose") {
         Some(CommandWord::Lose)
+    } else if is(word, b"spares") {
+        Some(CommandWord::Spares)
     } else {
         None
     }

@@ -2,8 +2,6 @@
 #![tactic(auto)]
 
 mod bounds;
-#[cfg(test)]
-mod bounds_tests;
 mod checking;
 mod commands;
 mod counts;
@@ -14,8 +12,6 @@ mod lines;
 mod matrix_file;
 mod names;
 mod numbers;
-#[cfg(test)]
-mod pairs;
 mod reading;
 mod recovery;
 mod routine_lines;
@@ -23,8 +19,6 @@ mod routines;
 mod rules;
 mod runs;
 mod steps;
-#[cfg(test)]
-mod tests;
 mod text;
 mod told;
 
@@ -33,6 +27,6 @@ pub use checking::check;
 pub use fault::{Refused, TextFault};
 pub use matrix_file::parse_matrix;
 pub use reading::parse_script;
-pub use recovery::recovery_steps;
+pub use recovery::{ranks_of, recovery_steps};
 pub use runs::first_unrunnable;
 pub use text::{info_text, matrix_text, pivots_text};

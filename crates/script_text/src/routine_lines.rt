@@ -1,10 +1,20 @@
 //! The lines of the routines as commands.
 ghost use Rattle.std.specs.Prelude.{◌≡◌, IfOk};
-ghost use Rattle.script_text.specs.Commands.{pgemm_of, ptrsm_of, pgetrf_of, pgetrs_of, pgemr2d_of};
+ghost use Rattle.script_text.specs.Commands.{word_at, pgemm_of, ptrsm_of, pgetrf_of, pgetrs_of, pgemr2d_of};
 
 use crate::commands::{number_at, word_at};
 use run_data::{Command, Word};
 use std::alloc::{AllocError as NoMemory, Global};
+
+// Two words of a line.
+fn pair_at(alloc: Global, words: &[Word], i: usize, j: usize) -> Result<(Word, Word), NoMemory>
+    ensures first { IfOk result (λ pair. pair.0 ≡ word_at words.now i) }
+    ensures second { IfOk result (λ pair. pair.1 ≡ word_at words.now j) }
+{
+    let first = word_at(alloc, words, i)?;
+    let second = word_at(alloc, words, j)?;
+    Ok((first, second))
+}
 
 /// `pgemm TRANSA TRANSB M N K ALPHA A IA JA B IB JB BETA C IC JC`
 #[tactic(auto, unfolding(crate::specs::Commands::pgemm_of))]
@@ -44,10 +54,8 @@ pub fn pgemm_of(alloc: Global, words: &[Word]) -> Result<Option<Command>, NoMemo
     let Some(jc) = number_at(words, 16) else {
         return Ok(None);
     };
-    let transa = word_at(alloc, words, 1)?;
-    let transb = word_at(alloc, words, 2)?;
-    let a = word_at(alloc, words, 7)?;
-    let b = word_at(alloc, words, 10)?;
+    let (transa, transb) = pair_at(alloc, words, 1, 2)?;
+    let (a, b) = pair_at(alloc, words, 7, 10)?;
     let c = word_at(alloc, words, 14)?;
     Ok(Some(Command::Pgemm {
         transa,
@@ -95,12 +103,9 @@ pub fn ptrsm_of(alloc: Global, words: &[Word]) -> Result<Option<Command>, NoMemo
     let Some(jb) = number_at(words, 13) else {
         return Ok(None);
     };
-    let side = word_at(alloc, words, 1)?;
-    let uplo = word_at(alloc, words, 2)?;
-    let transa = word_at(alloc, words, 3)?;
-    let diag = word_at(alloc, words, 4)?;
-    let a = word_at(alloc, words, 8)?;
-    let b = word_at(alloc, words, 11)?;
+    let (side, uplo) = pair_at(alloc, words, 1, 2)?;
+    let (transa, diag) = pair_at(alloc, words, 3, 4)?;
+    let (a, b) = pair_at(alloc, words, 8, 11)?;
     Ok(Some(Command::Ptrsm {
         side,
         uplo,

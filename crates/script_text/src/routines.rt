@@ -3,7 +3,7 @@ ghost use Rattle.std.specs.Prelude.{◌≡◌, not};
 ghost use Rattle.std.specs.Str.{bytes_eq};
 ghost use Rattle.run_data.specs.Script.{commands_of};
 ghost use Rattle.script_text.specs.Rules.{first_code, pgemm_line, ptrsm_line, pgetrf_line, pgetrs_line, pgemr2d_line, routine_rules};
-ghost use Rattle.script_text.specs.Routines.{is_option, factor_rules, sum_rules, ptrsm_rules, pgetrf_rules, pgetrs_rules, is_within, pgemr2d_rules};
+ghost use Rattle.script_text.specs.Routines.{is_option, factor_rules, sum_rules, pgemm_rules, ptrsm_rules, pgetrf_rules, pgetrs_rules, is_within, pgemr2d_rules};
 
 use crate::kinds::is;
 use crate::layouts::{Layout, factored, layout_of};
@@ -106,6 +106,35 @@ fn sum_code(
         (-1907, c.rsrc == a.rsrc),
         (-1908, c.csrc == b.csrc),
     ])
+}
+
+// The first broken rule of PGEMM.
+fn pgemm_code(
+    transa: &[u8],
+    transb: &[u8],
+    m: u32,
+    n: u32,
+    k: u32,
+    alpha: u32,
+    ia: u32,
+    ja: u32,
+    ib: u32,
+    jb: u32,
+    beta: u32,
+    apart: bool,
+    ic: u32,
+    jc: u32,
+    a: Layout,
+    b: Layout,
+    c: Layout,
+) -> Option<i32>
+    ensures { result ≡ first_code (pgemm_rules transa.now transb.now m n k alpha ia ja ib jb beta apart ic jc a b c) }
+{
+    let code = factor_code(transa, transb, m, n, k, alpha, ia, ja, ib, jb, a, b);
+    match code {
+        Some(_) => code,
+        None => sum_code(m, n, beta, apart, ic, jc, a, b, c),
+    }
 }
 
 // The first broken rule of PTRSM.
@@ -255,11 +284,7 @@ fn pgemm_line(script: &Script, line: u32, command: &Command) -> Option<i32>
     else {
         return None;
     };
-    let apart = are_apart(c.bytes(), a.bytes()) && are_apart(c.bytes(), b.bytes());
-    let on = layout_of(script, line, a.bytes());
-    let by = layout_of(script, line, b.bytes());
-    let into = layout_of(script, line, c.bytes());
-    let code = factor_code(
+    pgemm_code(
         transa.bytes(),
         transb.bytes(),
         *m,
@@ -270,13 +295,14 @@ fn pgemm_line(script: &Script, line: u32, command: &Command) -> Option<i32>
         *ja,
         *ib,
         *jb,
-        on,
-        by,
-    );
-    match code {
-        Some(code) => Some(code),
-        None => sum_code(*m, *n, *beta, apart, *ic, *jc, on, by, into),
-    }
+        *beta,
+        are_apart(c.bytes(), a.bytes()) && are_apart(c.bytes(), b.bytes()),
+        *ic,
+        *jc,
+        layout_of(script, line, a.bytes()),
+        layout_of(script, line, b.bytes()),
+        layout_of(script, line, c.bytes()),
+    )
 }
 
 // The first broken rule of a `ptrsm` line.

@@ -3,7 +3,7 @@ ghost use Rattle.std.specs.Prelude.{◌≡◌, ◌+◌, ◌*◌, ◌≤◌, ◌<
 ghost use Rattle.std.specs.Option.{option_copied};
 ghost use Rattle.std.specs.List.{list_all};
 ghost use Rattle.run_data.specs.Script.{commands_of, is_grid_line, maker};
-ghost use Rattle.script_text.specs.Rules.{maker_command, is_matrix_line, is_list_line, process_rows, process_columns, matrix_words, first_code, word_rules, words_code, is_number, more_rules, is_shape, grid_rules, matrix_rules, print_rules, list_rules, topology_rules, links_rules, is_order_number, order_rules, lose_rules};
+ghost use Rattle.script_text.specs.Rules.{maker_command, is_matrix_line, is_list_line, process_rows, process_columns, matrix_words, first_code, word_rules, words_code, is_number, more_rules, is_shape, grid_rules, matrix_rules, print_rules, list_rules, topology_rules, links_rules, is_order_number, order_rules, lose_rules, spares_rules};
 
 use crate::kinds::Kind;
 use crate::layouts::Layout;
@@ -34,6 +34,9 @@ pub const MAX_ORDER: u32 = 4095;
 
 /// The greatest number of numbers of all `order` lines.
 pub const MAX_ORDERED: u32 = 65536;
+
+/// The greatest number of a `spares` line.
+pub const MAX_SPARES: u32 = 4096;
 
 /// The command that made what a name means as seen from a line.
 pub fn maker_command<'a>(script: &'a Script, line: u32, name: &[u8]) -> Option<&'a Command>
@@ -136,13 +139,16 @@ pub fn words_code(script: &Script, line: u32, kinds: &[Kind], words: &[Word]) ->
     requires { length kinds.now ≤ length words.now }
     ensures { result ≡ words_code (commands_of script.now) line kinds.now words.now }
 {
-    for i in 0..kinds.len() {
-        let code = word_code(script, line, kinds[i], words[i].bytes());
-        if code.is_some() {
-            return code;
-        }
+    let [kind, kinds @ ..] = kinds else {
+        return None;
+    };
+    let [word, words @ ..] = words else {
+        return None;
+    };
+    match word_code(script, line, *kind, word.bytes()) {
+        Some(code) => Some(code),
+        None => words_code(script, line, kinds, words),
     }
-    None
 }
 
 // Whether all words are numbers.
@@ -287,4 +293,15 @@ pub fn lose_code(ranks: u64, rank: u32) -> Option<i32>
     ensures { result ≡ first_code (lose_rules ranks rank) }
 {
     code_unless(u64::from(rank) < ranks, 8)
+}
+
+/// The first broken rule of a `spares` line after so many of them.
+pub fn spares_code(lines: u32, n: u32) -> Option<i32>
+    ensures code { result ≡ first_code (spares_rules lines n) }
+    ensures first { IfNone result (lines ≡ 0) }
+{
+    if MAX_SPARES < n {
+        return Some(8);
+    }
+    code_unless(lines == 0, 21)
 }

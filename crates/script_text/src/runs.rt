@@ -15,12 +15,13 @@ fn can_run(command: &Command) -> bool
         Command::Discard { .. } => true,
         Command::Links { .. } => true,
         Command::Order { .. } => true,
+        Command::Spares { .. } => true,
         _ => false,
     }
 }
 
 /// The first line, counted from 1, that the ranks can't run so far: they run `grid` lines without code columns, `matrix`, `print`, `drop`,
-/// `links` and `order`.
+/// `links`, `order` and `spares`.
 pub fn first_unrunnable(script: &Script) -> Option<u32>
     ensures { result ≡ first_unrunnable (commands_of script.now) }
 {

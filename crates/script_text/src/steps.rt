@@ -1,5 +1,5 @@
 //! How many records the lines of the routines make.
-ghost use Rattle.std.specs.Prelude.{◌≡◌, ◌≤◌, ◌<◌, ◌^◌};
+ghost use Rattle.std.specs.Prelude.{◌≡◌, ◌≤◌, ◌<◌, ◌^◌, ◌+◌, ◌*◌, max};
 ghost use Rattle.array_desc.specs.Maps.{ceil_div};
 ghost use Rattle.script_text.specs.Steps.{IsInRange, one_phase, groups_in, row_ranks, diagonal_test, sweep, pgemm_steps, ptrsm_steps, start_phase, panel_phase, update_phase, merge_phase, pgetrf_steps, exchange_phase, pgetrs_steps, cuts, rectangles, copied_group, pgemr2d_steps, matrix_recovery, list_recovery};
 
@@ -135,6 +135,40 @@ fn merge_phase(a: Layout) -> u64
     1 + 3 * u64::from(a.p) * u64::from(a.f)
 }
 
+// The longest phase of `pgetrf`.
+fn longest_phase(start: u64, panel: u64, update: u64, merge: u64, test: u64) -> u64
+    requires start { start ≤ 400000 }
+    requires panel { panel ≤ 400000 }
+    requires update { update ≤ 400000 }
+    requires merge { merge ≤ 400000 }
+    requires test { test ≤ 1026 }
+    ensures value { result ≡ max start (max panel (max update (max merge test))) }
+    ensures few { result < 2 ^ 40 }
+{
+    start.max(panel.max(update.max(merge.max(test))))
+}
+
+// A panel and the updates of all groups by it.
+fn panel_and_updates(panel: u64, groups: u64, update: u64) -> u64
+    requires panel { panel ≤ 400000 }
+    requires groups { groups ≤ 1024 }
+    requires update { update ≤ 400000 }
+    ensures value { result ≡ panel + groups * update }
+    ensures few { result ≤ 410000000 }
+{
+    panel + groups * update
+}
+
+// So many parts of so many records each.
+fn all_of(parts: u64, each: u64) -> u64
+    requires parts { parts ≤ 1024 }
+    requires each { each ≤ 410000000 }
+    ensures value { result ≡ parts * each }
+    ensures few { result ≤ 419840000000 }
+{
+    parts * each
+}
+
 /// The records of `pgetrf` of `m` rows and `n` columns.
 pub fn pgetrf_steps(m: u32, n: u32, a: Layout) -> Steps
     requires in_range { IsInRange a }
@@ -150,10 +184,12 @@ pub fn pgetrf_steps(m: u32, n: u32, a: Layout) -> Steps
     let merge = merge_phase(a);
     let test = diagonal_test(a);
     let groups = groups_in(a);
-    let panels = ceil_div(m.min(n), a.nb);
+    let each = panel_and_updates(panel, groups, update);
+    let panels = all_of(ceil_div(m.min(n), a.nb), each);
+    let merges = all_of(groups, merge);
     Steps {
-        phase: start.max(panel.max(update.max(merge.max(test)))),
-        count: start + panels * (panel + groups * update) + groups * merge + test,
+        phase: longest_phase(start, panel, update, merge, test),
+        count: start + panels + merges + test,
     }
 }
 

@@ -100,3 +100,4 @@ keeps-whole p inverse files line (c.Topology kind) values pos w r = w
 keeps-whole p inverse files line (c.Links n) values pos w r = w
 keeps-whole p inverse files line (c.Order numbers) values pos w r = w
 keeps-whole p inverse files line (c.Lose at rank) values pos w r = w
+keeps-whole p inverse files line (c.Spares n) values pos w r = w

@@ -1,6 +1,6 @@
 -- The serial run: the commands of a script one after another on whole matrices by name, and the text that they print. Words are
 -- numbers modulo p, and `inverse` gives each word its inverse.
-use Rattle.std.specs.Prelude.{ℕ, if◌then◌else◌, Bool, ◌||◌, Option, Some, None, List, [], ◌∷◌, ◌++◌, codes}
+use Rattle.std.specs.Prelude.{ℕ, if◌then◌else◌, Bool, nat_le, ◌||◌, Option, Some, None, List, [], ◌∷◌, ◌++◌, codes}
 use Rattle.std.specs.Str.{bytes_eq}
 use Rattle.field_core.specs.Residue.{inverse}
 use Rattle.run_data.specs.Matrix.{Matrix, zero_matrix}
@@ -30,12 +30,14 @@ with_matrix values name m = with_value values name (Some (whole m))
 -- the matrix that a name means; one without rows and columns where it means none
 abbrev pub matrix_in : Option Value → Matrix
 matrix_in (Some (whole m)) = m
-matrix_in _ = zero_matrix 0 0
+matrix_in (Some (rows v)) = zero_matrix 0 0
+matrix_in None = zero_matrix 0 0
 
 -- the pivot list that a name means; the empty one where it means none
 abbrev pub list_in : Option Value → List ℕ
 list_in (Some (rows v)) = v
-list_in _ = []
+list_in (Some (whole m)) = []
+list_in None = []
 
 -- whether an option is the letter L, in either case
 abbrev pub is_lower : List ℕ → Bool
@@ -71,7 +73,14 @@ values_under p inverse files line (c.Pgetrs trans n nrhs a ia ja v b ib jb) valu
 values_under p inverse files line (c.Pgemr2d m n a ia ja b ib jb ctxt) values =
     with_matrix values b (window_copied m n (matrix_in (values a)) ia ja (matrix_in (values b)) ib jb)
 values_under p inverse files line (c.Discard name) values = with_value values name None
-values_under p inverse files line _ values = values
+values_under p inverse files line (c.Grid name down across f) values = values
+values_under p inverse files line (c.Print name) values = values
+values_under p inverse files line (c.Pivots name) values = values
+values_under p inverse files line (c.Topology kind) values = values
+values_under p inverse files line (c.Links n) values = values
+values_under p inverse files line (c.Order numbers) values = values
+values_under p inverse files line (c.Lose at rank) values = values
+values_under p inverse files line (c.Spares n) values = values
 
 -- the text of a value that is printed
 abbrev pub value_text : List ℕ → Option Value → List ℕ
@@ -87,7 +96,16 @@ text_under p inverse (c.Ptrsm side uplo transa diag m n alpha a ia ja b ib jb) v
     info_text (codes "ptrsm") b (solved_by_triangle p inverse values uplo diag alpha a b).info
 text_under p inverse (c.Pgetrf m n a ia ja v) values = info_text (codes "pgetrf") a (factored p inverse values a).info
 text_under p inverse (c.Pgetrs trans n nrhs a ia ja v b ib jb) values = info_text (codes "pgetrs") b (solved_by_factors p inverse values a v b).info
-text_under p inverse _ values = []
+text_under p inverse (c.Grid name down across f) values = []
+text_under p inverse (c.Matrix name grid m n mb nb rsrc csrc file) values = []
+text_under p inverse (c.Pgemm transa transb m n k alpha a ia ja b ib jb beta x ic jc) values = []
+text_under p inverse (c.Pgemr2d m n a ia ja b ib jb ctxt) values = []
+text_under p inverse (c.Discard name) values = []
+text_under p inverse (c.Topology kind) values = []
+text_under p inverse (c.Links n) values = []
+text_under p inverse (c.Order numbers) values = []
+text_under p inverse (c.Lose at rank) values = []
+text_under p inverse (c.Spares n) values = []
 
 -- the text of commands, from these values on
 abbrev pub texts_under : ℕ → (ℕ → ℕ) → (ℕ → Matrix) → List Numbered → Values → List ℕ
@@ -112,3 +130,12 @@ text_from = texts_under 65537 (inverse 65537)
 -- the text of the serial run
 abbrev pub serial_text : (ℕ → Matrix) → List Numbered → List ℕ
 serial_text = run_under 65537 (inverse 65537)
+
+-- the commands of lines 1 to k
+abbrev pub up_to : ℕ → List Numbered → List Numbered
+up_to k [] = []
+up_to k (n ∷ ns) = if nat_le n.line k then n ∷ up_to k ns else up_to k ns
+
+-- the text of lines 1 to k of the serial run
+abbrev pub text_to : (ℕ → Matrix) → List Numbered → ℕ → List ℕ
+text_to files ns k = serial_text files (up_to k ns)

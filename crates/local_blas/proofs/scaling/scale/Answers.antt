@@ -1,21 +1,19 @@
-use Rattle.std.proofs.Common.{◌*◌, ◌%◌, ◌∙◌, ap, arith}
-use Rattle.run_data.proofs.Fills.{fill_starts, fill_goes_on, fill_ends_column, fill_ends, fill_reads_next}
+use Rattle.std.proofs.Common.{◌*◌, ◌%◌, ap, arith}
+use Rattle.std.proofs.Math.Nat.{mod-lt}
+use Rattle.local_blas.proofs.Columns.{columns_start, columns_left, columns_go_on, columns_end, AreWords-columns}
 use Rattle.local_blas.proofs.scaling.scale.Goals as goal
 
 pub loop-j-init : goal.loop-j-init
-loop-j-init g c = fill_starts _ _ _ c.rows-shaped.ensures.shaped
+loop-j-init g c = columns_start _ _ _ c.rows-shaped.ensures.shaped
 
-pub mul-requires-clause-left : goal.mul-requires-clause-left
-mul-requires-clause-left g c =
-    rw (fill_reads_next _ _ _ _ _ _ _ c.loop-i.invariant c.get-word.ensures c.requires.dst_part (omega arith) (omega arith)) (c.requires.dst_words.below c.loop-i.i c.loop-j.j)
-
-pub loop-i-preserved : goal.loop-i-preserved
-loop-i-preserved g c =
-    fill_goes_on _ _ _ _ _ _ _ _ c.loop-i.invariant c.set.ensures (omega arith) (omega arith) (omega arith) (omega arith)
-    (c.mul.ensures ∙ ap (λ x. (x * c.args.a) % g.K.Field.MODULUS) (fill_reads_next _ _ _ _ _ _ _ c.loop-i.invariant c.get-word.ensures c.requires.dst_part (omega arith) (omega arith)))
+pub scale_column-requires-clause-dst_words : goal.scale_column-requires-clause-dst_words
+scale_column-requires-clause-dst_words g c =
+    AreWords-columns _ _ _ _ _ _ c.loop-j.invariant (omega (arith, g.met.K.Field.at_least)) c.requires.dst_words (λ i j. mod-lt _ (omega (arith, g.met.K.Field.at_least)))
 
 pub loop-j-preserved : goal.loop-j-preserved
-loop-j-preserved g c = c.loop-i.invariant ∙ fill_ends_column _ _ _ _ _ (omega arith)
+loop-j-preserved g c =
+    columns_go_on _ _ _ _ _ _ _ c.loop-j.invariant (rw c.column_of.ensures at c.scale_column.ensures) c.requires.dst_part (omega arith) (omega arith)
+    (λ r h1 h2. ap (λ x. (x * c.args.a) % g.K.Field.MODULUS) (columns_left _ _ _ _ _ _ c.loop-j.invariant c.requires.dst_part h1 h2 (omega arith)))
 
 pub returns : goal.returns
-returns g c = c.loop-j.invariant ∙ fill_ends _ _ _ _ _ (omega arith)
+returns g c = columns_end _ _ _ _ _ c.loop-j.invariant (omega arith)

@@ -1,53 +1,21 @@
-use Rattle.std.proofs.Common.{◌≡◌, ℕ, ◌-◌, ◌+◌, ◌*◌, ◌%◌, ◌<◌, ◌∙◌, refl, sym, subst, ap, arith}
-use Rattle.field_core.specs.Residue.{inverse}
-use Rattle.field_core.specs.Sums.{sum_to}
-use Rattle.field_core.proofs.Sums.{sum_to-same}
-use Rattle.run_data.specs.Matrix.{entry, AreWords}
+use Rattle.std.proofs.Common.{arith}
 use Rattle.run_data.specs.Parts.{part_entry}
-use Rattle.run_data.proofs.Fills.{AreWords-with_done, fill_starts, fill_goes_on, fill_ends_column, fill_ends, fill_reads_next, fill_reads_above}
-use Rattle.local_blas.specs.Kernels.{divided, solution}
-use Rattle.local_blas.proofs.Steps.{loses}
-use Rattle.local_blas.proofs.Solutions.{solution-equation, solution-below}
+use Rattle.local_blas.proofs.Solutions.{solution-below}
+use Rattle.local_blas.proofs.Columns.{columns_start, columns_go_on, columns_end, AreWords-columns}
+use Rattle.local_blas.proofs.ColumnSolutions.{lower_column}
 use Rattle.local_blas.proofs.solve.solve_lower.Goals as goal
 
 pub loop-j-init : goal.loop-j-init
-loop-j-init g c = fill_starts _ _ _ c.rows-shaped.ensures.shaped
+loop-j-init g c = columns_start _ _ _ c.rows-shaped.ensures.shaped
 
-pub inner_product-known-requires-clause-right_words : goal.inner_product-known-requires-clause-right_words
-inner_product-known-requires-clause-right_words g c =
-    subst (AreWords g.K.Field.MODULUS) (sym c.loop-i.invariant)
-    (AreWords-with_done _ _ _ _ _ (omega (arith, g.met.K.Field.at_least)) c.requires.dst_words (λ i j. solution-below _ _ _ _ _ _ (omega (arith, g.met.K.Field.at_least))))
-
-pub sub-word-requires-clause-left : goal.sub-word-requires-clause-left
-sub-word-requires-clause-left g c =
-    rw (fill_reads_next _ _ _ _ _ _ _ c.loop-i.invariant c.get.ensures c.requires.dst_part (omega arith) (omega arith)) (c.requires.dst_words.below c.loop-i.i c.loop-j.j)
-
-pub loop-i-preserved : goal.loop-i-preserved
-loop-i-preserved g c =
-    let p = g.K.Field.MODULUS in
-    let row = c.loop-i.i - c.args.at.r0 in
-    let l = part_entry c.args.block.now c.args.bp in
-    let b : ℕ → ℕ = λ k. part_entry c.args.dst.now c.args.at k (c.loop-j.j - c.args.at.c0) in
-    let x : ℕ → ℕ = solution p (inverse p) c.args.unit l b in
-    let here : entry c.args.dst.now c.loop-i.i c.loop-j.j ≡ b row =
-    ap (λ r. entry c.args.dst.now r c.loop-j.j) (let e : c.loop-i.i ≡ c.args.at.r0 + row = omega arith in e)
-    ∙ ap (entry c.args.dst.now (c.args.at.r0 + row)) (let e : c.loop-j.j ≡ c.args.at.c0 + (c.loop-j.j - c.args.at.c0) = omega arith in e) in
-    let known : sum_to row (λ k. l row k * entry c.loop-i.dst (c.args.at.r0 + k) c.loop-j.j) ≡ sum_to row (λ k. l row k * x k) =
-    sum_to-same row (λ k. l row k * entry c.loop-i.dst (c.args.at.r0 + k) c.loop-j.j) (λ k. l row k * x k)
-    (λ k h. ap (λ v. l row k * v)
-    (fill_reads_above _ _ _ _ _ _ _ _ c.loop-i.invariant refl c.requires.dst_part (omega arith) (omega arith) (omega arith) (omega arith) (omega arith)
-    ∙ ap x (let e : (c.args.at.r0 + k) - c.args.at.r0 ≡ k = omega arith in e))) in
-    let word : c.sub-word.result ≡ (b row + (p - 1) * sum_to row (λ k. l row k * x k)) % p =
-    loses p (b row) (sum_to row (λ k. l row k * x k)) c.inner_product-known.result c.sub-word.result
-    (subst (λ v. v < p) here (c.requires.dst_words.below c.loop-i.i c.loop-j.j))
-    (c.inner_product-known.ensures.sum ∙ ap (λ s. s % p) known)
-    (c.sub-word.ensures ∙ ap (λ v. (v + (p - c.inner_product-known.result)) % p) (fill_reads_next _ _ _ _ _ _ _ c.loop-i.invariant c.get.ensures c.requires.dst_part (omega arith) (omega arith) ∙ here)) in
-    fill_goes_on _ _ _ _ _ _ _ _ c.loop-i.invariant c.set.ensures (omega arith) (omega arith) (omega arith) (omega arith)
-    (c.quotient.ensures ∙ ap (λ d. divided p (inverse p) c.args.unit d c.sub-word.result) c.get-diagonal.ensures
-    ∙ ap (divided p (inverse p) c.args.unit (l row row)) word ∙ sym (solution-equation p (inverse p) c.args.unit l b row))
+pub solve_lower_column-requires-clause-dst_words : goal.solve_lower_column-requires-clause-dst_words
+solve_lower_column-requires-clause-dst_words g c =
+    AreWords-columns _ _ _ _ _ _ c.loop-j.invariant (omega (arith, g.met.K.Field.at_least)) c.requires.dst_words (λ i j. solution-below _ _ _ _ _ _ (omega (arith, g.met.K.Field.at_least)))
 
 pub loop-j-preserved : goal.loop-j-preserved
-loop-j-preserved g c = c.loop-i.invariant ∙ fill_ends_column _ _ _ _ _ (omega arith)
+loop-j-preserved g c =
+    columns_go_on _ _ _ _ _ _ _ c.loop-j.invariant (rw c.column_of.ensures at c.solve_lower_column.ensures) c.requires.dst_part (omega arith) (omega arith)
+    (λ r h1 h2. lower_column _ _ _ (part_entry c.args.block.now c.args.bp) _ _ _ _ _ _ c.loop-j.invariant c.requires.dst_part (omega arith) (omega arith) h1 h2)
 
 pub returns : goal.returns
-returns g c = c.loop-j.invariant ∙ fill_ends _ _ _ _ _ (omega arith)
+returns g c = columns_end _ _ _ _ _ c.loop-j.invariant (omega arith)

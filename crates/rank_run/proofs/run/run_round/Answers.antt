@@ -4,7 +4,7 @@ use Rattle.rank_run.proofs.run.run_round.Goals as goal
 
 pub loop-init : goal.loop-init
 loop-init g c =
-    (in_round_at_start _ _ _ _ c.args.round.now _ _ _ _ _ c.ranks.result c.events-events.ensures c.requires.ranks c.requires.empty c.requires.may c.ranks.ensures.ranks c.in_ok-places.ensures, refl)
+    (in_round_at_start _ _ _ _ c.args.round.now _ _ _ _ _ c.ranks.result c.events-events.ensures c.requires.ranks c.requires.empty c.requires.may c.ranks.ensures.ranks c.in_ok-places.ensures, refl, refl)
 
 pub returns-then-due-clause-run : goal.returns-then-due-clause-run
 returns-then-due-clause-run g c =
@@ -55,6 +55,7 @@ loop-preserved g c = (
   (turn c.loop.invariant.0 c.as_slice.result.now c.in_ok-rank.rank c.index-place.result.now c.index-events-place.result c.as_slice.ensures.value c.in_ok-rank.ensures.picked c.index-place.ensures c.index-events-place.is).onward
       _ _ _ c.next_place.result c.in_ok-take_step.ensures.taken c.in_ok-rank.ensures.rest (sym c.due.ensures ∙ c.if-due.false) c.in_ok-take_step.ensures.noted c.next_place.ensures.same c.next_place.ensures.here,
   c.take_step.ensures.blank ∙ c.loop.invariant.1,
+  c.take_step.ensures.unheard ∙ c.loop.invariant.2,
 )
 
 pub returns-clause-run : goal.returns-clause-run

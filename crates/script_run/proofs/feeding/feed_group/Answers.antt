@@ -19,6 +19,7 @@ feed-requires c =
     let recs : List ℕ → List Rec = λ is. feeds (map (λ i. record { rank = member c.args.layout.grid All i; slot = slot_at Data c.args.line c.args.group }) is) in
     let slot = slot_at Data c.args.line c.args.group in
     record {
+      no_losses = ap (λ s. s.losses) c.loop-i.invariant.setting ∙ c.requires.no_losses;
       legal = subst (λ (n : ℕ). IsLegalRec (setting_in c.loop-i.world) (state_of c.loop-i.world) (Feed n slot)) (sym c.member-rank.ensures.value)
           (turn-legal recs c.loop-i.i c.members-i-end.result c.loop-i-test.true c.loop-i.world (Feed (member c.args.layout.grid All c.loop-i.i) slot) (λ is. refl) c.loop-i.invariant.legal);
       brings = fed-is (setting_in c.loop-i.world) c.member-rank.result c.args.line c.args.group (seen c.args.layout) c.args.m.now _
@@ -30,9 +31,9 @@ loop-i-preserved c =
     let recs : List ℕ → List Rec = λ is. feeds (map (λ i. record { rank = member c.args.layout.grid All i; slot = slot_at Data c.args.line c.args.group }) is) in
     let slot = slot_at Data c.args.line c.args.group in
     let x = Feed (member c.args.layout.grid All c.loop-i.i) slot in
-    let moved : c.feed.new.self ≡ noted c.loop-i.world x = c.in_ok-feed.ensures.noted ∙ ap (λ n. noted c.loop-i.world (Feed n slot)) c.member-rank.ensures.value in
+    let moved : c.feed.new.world ≡ noted c.loop-i.world x = c.in_ok-feed.ensures ∙ ap (λ n. noted c.loop-i.world (Feed n slot)) c.member-rank.ensures.value in
     record {
-      ends = turn-ends recs c.loop-i.i c.members-i-end.result c.loop-i-test.true c.loop-i.world x (λ is. refl) c.feed.new.self _ moved c.loop-i.invariant.ends;
-      legal = turn-rest recs c.loop-i.i c.members-i-end.result c.loop-i-test.true c.loop-i.world x (λ is. refl) c.feed.new.self moved c.loop-i.invariant.legal;
+      ends = turn-ends recs c.loop-i.i c.members-i-end.result c.loop-i-test.true c.loop-i.world x (λ is. refl) c.feed.new.world _ moved c.loop-i.invariant.ends;
+      legal = turn-rest recs c.loop-i.i c.members-i-end.result c.loop-i-test.true c.loop-i.world x (λ is. refl) c.feed.new.world moved c.loop-i.invariant.legal;
       setting = ap setting_in moved ∙ c.loop-i.invariant.setting;
     }

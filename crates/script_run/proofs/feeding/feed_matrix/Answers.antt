@@ -11,6 +11,9 @@ use Rattle.script_run.proofs.feeding.feed_matrix.Goals as goal
 pub feed_group-requires-clause-file : goal.feed_group-requires-clause-file
 feed_group-requires-clause-file c = ap (λ s. s.files c.args.line) c.loop-group.invariant.setting ∙ c.requires.file
 
+pub feed_group-requires-clause-no_losses : goal.feed_group-requires-clause-no_losses
+feed_group-requires-clause-no_losses c = ap (λ s. s.losses) c.loop-group.invariant.setting ∙ c.requires.no_losses
+
 pub feed_group-requires-clause-legal : goal.feed_group-requires-clause-legal
 feed_group-requires-clause-legal c =
     let d = seen c.args.layout in

@@ -36,6 +36,9 @@ take_group-requires-clause-held c = λ rank group names.
     c.loop-group.invariant.tiles rank (slot_at Data c.args.line group) ∙ c.requires.held rank group names
     ∙ ap (λ s. Some (Words (strip_of d (s.files c.args.line) rank group))) (sym c.loop-group.invariant.setting)
 
+pub take_group-requires-clause-no_losses : goal.take_group-requires-clause-no_losses
+take_group-requires-clause-no_losses c = ap (λ s. s.losses) c.loop-group.invariant.setting ∙ c.requires.no_losses
+
 pub take_group-requires-clause-legal : goal.take_group-requires-clause-legal
 take_group-requires-clause-legal c =
     let d = seen c.args.layout in

@@ -6,6 +6,9 @@ use Rattle.script_run.proofs.Underway.{Underway, may_run, after_line, underway-f
 use Rattle.script_run.proofs.running.run.Goals as goal
 use Rattle.script_run.proofs.running.run.Goals.{in-Some+in_ok-run_line, in_default}
 
+pub open-requires-clause-losses : goal.open-requires-clause-losses
+open-requires-clause-losses c = sym c.requires.plain.no_losses
+
 pub loop-i-init : goal.loop-i-init
 loop-i-init c =
     let w = c.in_ok-world.ensures in

@@ -7,6 +7,7 @@ use Rattle.script_lines.specs.Layouts.{layout_in}
 use Rattle.block_world.specs.World.{noted_all}
 use Rattle.script_run.specs.Noted.{MayNote}
 use Rattle.script_run.specs.Runnable.{printed_on, records_of}
+use Rattle.script_run.proofs.NoLosses.{runnable-no_losses}
 use Rattle.script_run.proofs.Underway.{print-records}
 use Rattle.script_run.proofs.running.run_line.Goals as goal
 
@@ -23,6 +24,9 @@ run_print-requires-clause-legal c =
     subst (MayNote c.args.world.now)
     (ap (records_of c.args.script.now c.args.files.now c.args.line) f.is ∙ print-records c.args.script.now c.args.files.now c.args.line f.name (c.requires.may.prints f.name f.is))
     c.requires.may.legal
+
+pub end_line-requires-clause-no_losses : goal.end_line-requires-clause-no_losses
+end_line-requires-clause-no_losses c = runnable-no_losses c.args.script.now c.args.files.now c.args.world.now c.requires.runnable c.requires.same.script_is
 
 pub returns-in-Print-clause-noted : goal.returns-in-Print-clause-noted
 returns-in-Print-clause-noted c =

@@ -1,6 +1,7 @@
 use Rattle.std.proofs.Common.{◌<◌, ◌∙◌, length, refl, ap, sym, subst}
 use Rattle.std.proofs.lemmas.Option.{slice_get_within}
 use Rattle.rank_run.specs.Machine.{machine}
+use Rattle.rank_machine.specs.Effect.{after}
 use Rattle.rank_run.specs.Rounds.{on_rank}
 use Rattle.rank_machine.specs.Effect.{strip}
 use Rattle.rank_machine.specs.declared.slot.Tile.TheVariants.{Words}
@@ -13,7 +14,7 @@ use Rattle.rank_slots.proofs.Worlds.{live_is_there, residues-put}
 use Rattle.block_world.specs.Log.{recorded}
 use Rattle.block_world.specs.Replay.{view_of}
 use Rattle.block_world.specs.World.{setting_in, state_of}
-use Rattle.block_world.proofs.Replayed.{IsReplay-noted, fields_are, legal_here, agrees}
+use Rattle.block_world.proofs.Replayed.{IsReplay-noted, fields_are, legal_here, agrees, due_is, hit_here, made_here, take_back_here, flags_stay}
 use Rattle.block_world.proofs.world.World.feed.Goals as goal
 
 pub put_on-requires-clause-rank : goal.put_on-requires-clause-rank
@@ -51,22 +52,50 @@ invariant_of-self-in-Ok g c =
     let there = live_is_there w.mems.items rank (i.stands.live rank ∙ legal.live) in
     let f : Rank → Rank = λ m. with_tile m slot (Words c.args.m) in
     let back = lent_back c.put_on.new.mems w.mems.items w.mems.len (c.put_on.auto.mems ∙ c.deref_mut.ensures.len) in
-    fields_are p w.script.now w.files.now c.note.new.self (recorded w.keeper r) _ (on_rank w.mems.items rank f) w.links w.mark c.in_ok-note.ensures.noted
-    (back ∙ c.in-Ok.ensures.done ∙ ap (λ ms. on_rank ms rank f) c.deref_mut.ensures.value)
-    (IsReplay-noted p now x (machine (on_rank w.mems.items rank f) w.links) w.mark w.mark r i
+    let mems = back ∙ c.in-Ok.ensures.done ∙ ap (λ ms. on_rank ms rank f) c.deref_mut.ensures.value in
+    fields_are p w.script.now w.files.now w.mark (record { log = c.note.new.self; mems = _; links = w.links; lost = w.lost.items })
+    (record { log = recorded w.keeper r; mems = on_rank w.mems.items rank f; links = w.links; lost = w.lost.items })
+    (λ j. record { log = c.in_ok-note.ensures.noted j; mems = mems j; links = w.links; lost = w.lost.items })
+    (IsReplay-noted p now w.keeper.losses x (machine (on_rank w.mems.items rank f) w.links) w.mark w.mark w.lost.items w.lost.items r i
     (record {
       legal = legal;
       one = refl;
+      due = sym (due_is p w.script.now w.files.now w.keeper x w.mark w.lost.items i) ∙ sym c.due.ensures ∙ c.if-due.false;
       stands = stands-put s i.table x (state_of now) rank f there.0 slot (strip s rank slot) there.1 (ap (λ t. with_tile there.0 slot t) (sym brings)) i.stands;
       residues = residues-put p x rank slot (Words c.args.m) (strip_residues p s rank slot c.args.m (agrees p w.script.now w.files.now i.table i.sound i.lines).some (i.sound.files slot.id legal.matrix) brings) i.residues;
       mark_is = i.mark_is;
+      flags = flags_stay (setting_in now) (state_of now) (after (setting_in now) (state_of now) r) w.lost.items refl i.flags;
     }))
 
 pub invariant_of-self-in-Err : goal.invariant_of-self-in-Err
 invariant_of-self-in-Err g c =
     let w = c.self.inside in
     let back = lent_back c.put_on.new.mems w.mems.items w.mems.len (c.put_on.auto.mems ∙ c.deref_mut.ensures.len) in
-    fields_are g.K.Field.MODULUS w.script.now w.files.now c.take_back.new.self w.keeper _ w.mems.items w.links w.mark
-    (c.take_back.ensures w.keeper (Feed c.args.rank c.args.slot) c.in_ok-note.ensures.noted c.room-room.ensures)
-    (back ∙ c.in-Err.ensures.kept ∙ c.deref_mut.ensures.value)
+    let mems = back ∙ c.in-Err.ensures.kept ∙ c.deref_mut.ensures.value in
+    let log = c.take_back.ensures w.keeper (Feed c.args.rank c.args.slot) c.in_ok-note.ensures.noted c.room-room.ensures in
+    fields_are g.K.Field.MODULUS w.script.now w.files.now w.mark (record { log = c.take_back.new.self; mems = _; links = w.links; lost = w.lost.items })
+    (record { log = w.keeper; mems = w.mems.items; links = w.links; lost = w.lost.items })
+    (λ j. record { log = log j; mems = mems j; links = w.links; lost = w.lost.items })
     c.self.invariant
+
+pub take_back-requires : goal.take_back-requires
+take_back-requires g c =
+    let w = c.self.inside in
+    let may = take_back_here w.keeper c.note.new.self (Feed c.args.rank c.args.slot) c.room-room.result refl (sym c.due.ensures ∙ c.if-due.false) c.in_ok-note.ensures.noted c.room-room.ensures in
+    record { some = may.some; numbered = may.numbered; due = may.due; room = may.room_is }
+
+pub returns-then-due : goal.returns-then-due
+returns-then-due g c =
+    let w = c.self.inside in
+    record {
+      did = hit_here g.K.Field.MODULUS w.script.now w.files.now w.keeper (machine w.mems.items w.links) w.mark w.lost.items c.args.self.now c.self.invariant c.self.view_is (sym c.due.ensures ∙ c.if-due.true);
+      kept = tt;
+    }
+
+pub returns-in-Ok : goal.returns-in-Ok
+returns-in-Ok g c =
+    let w = c.self.inside in
+    record {
+      did = made_here g.K.Field.MODULUS w.script.now w.files.now w.keeper c.note.new.self (machine w.mems.items w.links) w.mark w.lost.items c.args.self.now (Feed c.args.rank c.args.slot) c.self.invariant c.self.view_is (sym c.due.ensures ∙ c.if-due.false) c.in_ok-note.ensures.noted;
+      kept = tt;
+    }

@@ -1,0 +1,242 @@
+//! Kernels on parts. Expected values are a Python computation's, over whole numbers modulo the prime.
+ghost use Rattle.std.specs.Prelude.{◌≡◌, ◌≢◌, ℕ, ◌-◌, ◌<◌, false};
+ghost use Rattle.run_data.specs.Parts.{IsWithin, part_entry};
+ghost use Rattle.local_blas.specs.Kernels.{AreWords};
+
+use crate::checks::{check_is, check_number, check_shape, matrix, zeros};
+use field_core::{F65521, F65537, Field};
+use local_blas::{
+    Mat, Part, add_scaled, eliminate, first_nonzero, mul_add, put_part, scale, solve_lower,
+    solve_upper, swap_rows,
+};
+use std::process::Abort;
+
+/// All of a matrix.
+fn whole(m: &Mat) -> Part
+    ensures { IsWithin result m.now }
+{
+    Part {
+        r0: 0,
+        r1: m.rows(),
+        c0: 0,
+        c1: m.cols(),
+    }
+}
+
+/// Stops where a word is not below the modulus.
+fn check_words<K: Field>(rt: &impl Abort, m: &Mat)
+    ensures { AreWords K.MODULUS m.now }
+{
+    assert!(rt; m.has_words_below(K::MODULUS));
+}
+
+/// Stops where the part does not lie in the matrix.
+fn check_within(rt: &impl Abort, at: Part, m: &Mat)
+    ensures { IsWithin at m.now }
+{
+    assert!(rt; at.r0 <= at.r1 && at.r1 <= m.rows());
+    assert!(rt; at.c0 <= at.c1 && at.c1 <= m.cols());
+}
+
+/// Stops where the diagonal of a square part has a 0 and does not count as 1.
+fn check_diagonal(rt: &impl Abort, block: &Mat, bp: Part, unit: bool)
+    requires within { IsWithin bp block.now }
+    requires square { bp.r1 - bp.r0 ≡ bp.c1 - bp.c0 }
+    ensures { unit ≡ false → (i : ℕ) → i < bp.r1 - bp.r0 → part_entry block.now bp i i ≢ 0 }
+{
+    if unit {
+        return;
+    }
+    for i in 0..bp.r1 - bp.r0 {
+        assert!(rt; block.get(bp.r0 + i, bp.c0 + i) != 0);
+    }
+}
+
+/// Solves for all of `dst` by all of `block`.
+fn solve<K: Field>(rt: &impl Abort, dst: &mut Mat, block: &Mat, is_lower: bool, unit: bool) {
+    let at = whole(dst);
+    let bp = whole(block);
+    assert!(rt; bp.r1 - bp.r0 == bp.c1 - bp.c0 && at.r1 - at.r0 == bp.r1 - bp.r0);
+    check_words::<K>(rt, dst);
+    check_words::<K>(rt, block);
+    check_diagonal(rt, block, bp, unit);
+    if is_lower {
+        solve_lower::<K>(dst, at, block, bp, unit);
+    } else {
+        solve_upper::<K>(dst, at, block, bp, unit);
+    }
+}
+
+/// Scales all of `dst` by `b`, and adds `a` times the product.
+fn multiply<K: Field>(rt: &impl Abort, b: u32, dst: &mut Mat, a: u32, left: &Mat, right: &Mat) {
+    let at = whole(dst);
+    let lp = whole(left);
+    let rp = whole(right);
+    assert!(rt; a < K::MODULUS && b < K::MODULUS);
+    check_words::<K>(rt, dst);
+    scale::<K>(dst, at, b);
+    check_within(rt, at, dst);
+    check_words::<K>(rt, dst);
+    check_words::<K>(rt, left);
+    check_words::<K>(rt, right);
+    assert!(rt; at.r1 - at.r0 == lp.r1 - lp.r0 && at.c1 - at.c0 == rp.c1 - rp.c0);
+    assert!(rt; lp.c1 - lp.c0 == rp.r1 - rp.r0);
+    mul_add::<K>(dst, at, a, left, lp, right, rp);
+}
+
+/// Eliminates column `j` below row `from` by a row.
+fn eliminate_below<K: Field>(rt: &impl Abort, dst: &mut Mat, from: u32, j: u32, row: &Mat) {
+    assert!(rt; from <= dst.rows() && j < dst.cols());
+    assert!(rt; row.rows() == 1 && row.cols() == dst.cols());
+    assert!(rt; row.get(0, j) != 0);
+    check_words::<K>(rt, dst);
+    check_words::<K>(rt, row);
+    eliminate::<K>(dst, from, j, row);
+}
+
+#[test]
+fn products(rt: HostRuntime) {
+    let alloc = rt.alloc();
+    let left = matrix(&rt, alloc, 2, 2, &[1, 3, 2, 4]);
+    let right = matrix(&rt, alloc, 2, 2, &[5, 7, 6, 8]);
+    let mut dst = matrix(&rt, alloc, 2, 2, &[3, 1, 9, 1]);
+    multiply::<F65537>(&rt, 0, &mut dst, 1, &left, &right);
+    check_is(&rt, &dst, &[19, 43, 22, 50]);
+    multiply::<F65537>(&rt, 65536, &mut dst, 2, &left, &right);
+    check_is(&rt, &dst, &[19, 43, 22, 50]);
+    let largest = matrix(&rt, alloc, 1, 1, &[65536]);
+    let mut one = matrix(&rt, alloc, 1, 1, &[1]);
+    multiply::<F65537>(&rt, 65536, &mut one, 65536, &largest, &largest);
+    check_is(&rt, &one, &[65535]);
+    let last = matrix(&rt, alloc, 1, 1, &[65520]);
+    let mut other = matrix(&rt, alloc, 1, 1, &[1]);
+    multiply::<F65521>(&rt, 2, &mut other, 65520, &last, &last);
+    check_is(&rt, &other, &[1]);
+    let mut strip = zeros(&rt, alloc, 0, 2);
+    let none = zeros(&rt, alloc, 0, 2);
+    multiply::<F65537>(&rt, 5, &mut strip, 7, &none, &right);
+    check_is(&rt, &strip, &[]);
+}
+
+#[test]
+fn solves(rt: HostRuntime) {
+    let alloc = rt.alloc();
+    let lower = matrix(&rt, alloc, 2, 2, &[2, 1, 0, 1]);
+    let mut x = matrix(&rt, alloc, 2, 1, &[3, 5]);
+    solve::<F65537>(&rt, &mut x, &lower, true, false);
+    check_is(&rt, &x, &[32770, 32772]);
+    let mut x = matrix(&rt, alloc, 2, 1, &[3, 5]);
+    solve::<F65537>(&rt, &mut x, &lower, true, true);
+    check_is(&rt, &x, &[3, 2]);
+    let factors = matrix(&rt, alloc, 2, 2, &[2, 32769, 1, 32769]);
+    let mut x = matrix(&rt, alloc, 2, 1, &[5, 3]);
+    solve::<F65537>(&rt, &mut x, &factors, true, true);
+    solve::<F65537>(&rt, &mut x, &factors, false, false);
+    check_is(&rt, &x, &[2, 1]);
+    let upper = matrix(&rt, alloc, 3, 3, &[2, 0, 0, 7, 5, 0, 11, 13, 9]);
+    let mut x = matrix(&rt, alloc, 3, 2, &[1, 2, 3, 100, 200, 65536]);
+    solve::<F65537>(&rt, &mut x, &upper, false, false);
+    check_is(&rt, &x, &[6554, 48060, 21846, 13017, 45188, 58255]);
+    let mut x = matrix(&rt, alloc, 3, 1, &[1, 2, 3]);
+    solve::<F65537>(&rt, &mut x, &upper, false, true);
+    check_is(&rt, &x, &[227, 65500, 3]);
+}
+
+#[test]
+fn rows(rt: HostRuntime) {
+    let alloc = rt.alloc();
+    let mut m = matrix(&rt, alloc, 3, 3, &[0, 7, 2, 1, 11, 3, 4, 13, 5]);
+    check_shape(&rt, &m, 3, 3);
+    check_number(&rt, first_nonzero(&m, 0, 0), Some(1));
+    check_number(&rt, first_nonzero(&m, 0, 3), None);
+    swap_rows(&mut m, 0, 2);
+    check_is(&rt, &m, &[2, 7, 0, 3, 11, 1, 5, 13, 4]);
+    let row = matrix(&rt, alloc, 1, 3, &[2, 3, 5]);
+    eliminate_below::<F65537>(&rt, &mut m, 1, 0, &row);
+    check_is(&rt, &m, &[2, 32772, 0, 3, 32769, 1, 5, 32764, 4]);
+    let mut square = matrix(&rt, alloc, 2, 2, &[2, 1, 1, 1]);
+    let pivot = matrix(&rt, alloc, 1, 2, &[2, 1]);
+    eliminate_below::<F65537>(&rt, &mut square, 1, 0, &pivot);
+    check_is(&rt, &square, &[2, 32769, 1, 32769]);
+}
+
+#[test]
+fn parts(rt: HostRuntime) {
+    let alloc = rt.alloc();
+    let src = matrix(&rt, alloc, 2, 2, &[1, 3, 2, 65536]);
+    let mut dst = matrix(&rt, alloc, 3, 3, &[1, 2, 3, 4, 5, 6, 7, 8, 9]);
+    let at = Part {
+        r0: 1,
+        r1: 3,
+        c0: 0,
+        c1: 1,
+    };
+    let sp = Part {
+        r0: 0,
+        r1: 2,
+        c0: 1,
+        c1: 2,
+    };
+    check_within(&rt, at, &dst);
+    check_within(&rt, sp, &src);
+    check_words::<F65537>(&rt, &dst);
+    check_words::<F65537>(&rt, &src);
+    add_scaled::<F65537>(&mut dst, at, 10, &src, sp);
+    check_is(&rt, &dst, &[1, 22, 65530, 4, 5, 6, 7, 8, 9]);
+    check_within(&rt, at, &dst);
+    put_part(&mut dst, at, &src, sp);
+    check_is(&rt, &dst, &[1, 2, 65536, 4, 5, 6, 7, 8, 9]);
+}
+
+#[test]
+fn matrices_of_no_words(rt: HostRuntime) {
+    let alloc = rt.alloc();
+    let square = matrix(&rt, alloc, 2, 2, &[2, 1, 0, 1]);
+    let none = zeros(&rt, alloc, 2, 0);
+    let mut no_columns = zeros(&rt, alloc, 2, 0);
+    check_shape(&rt, &no_columns, 2, 0);
+    swap_rows(&mut no_columns, 0, 1);
+    multiply::<F65537>(&rt, 5, &mut no_columns, 7, &square, &none);
+    solve::<F65537>(&rt, &mut no_columns, &square, true, false);
+    solve::<F65537>(&rt, &mut no_columns, &square, false, true);
+    check_shape(&rt, &no_columns, 2, 0);
+    check_is(&rt, &no_columns, &[]);
+    let empty = zeros(&rt, alloc, 0, 0);
+    let mut no_rows = zeros(&rt, alloc, 0, 3);
+    check_shape(&rt, &no_rows, 0, 3);
+    check_number(&rt, first_nonzero(&no_rows, 2, 0), None);
+    solve::<F65537>(&rt, &mut no_rows, &empty, true, false);
+    solve::<F65537>(&rt, &mut no_rows, &empty, false, false);
+    check_shape(&rt, &no_rows, 0, 3);
+    check_is(&rt, &no_rows, &[]);
+}
+
+#[test]
+fn parts_of_no_width(rt: HostRuntime) {
+    let alloc = rt.alloc();
+    let words: [u32; 6] = [1, 2, 3, 4, 5, 6];
+    let src = matrix(&rt, alloc, 2, 3, &words);
+    let mut dst = matrix(&rt, alloc, 2, 3, &words);
+    let at = Part {
+        r0: 0,
+        r1: 2,
+        c0: 1,
+        c1: 1,
+    };
+    check_within(&rt, at, &src);
+    check_words::<F65537>(&rt, &src);
+    check_within(&rt, at, &dst);
+    check_words::<F65537>(&rt, &dst);
+    add_scaled::<F65537>(&mut dst, at, 10, &src, at);
+    check_within(&rt, at, &dst);
+    put_part(&mut dst, at, &src, at);
+    check_within(&rt, at, &dst);
+    check_words::<F65537>(&rt, &dst);
+    scale::<F65537>(&mut dst, at, 0);
+    let left = zeros(&rt, alloc, 2, 0);
+    let right = zeros(&rt, alloc, 0, 3);
+    multiply::<F65537>(&rt, 1, &mut dst, 7, &left, &right);
+    let row = matrix(&rt, alloc, 1, 3, &[2, 3, 5]);
+    eliminate_below::<F65537>(&rt, &mut dst, 2, 0, &row);
+    check_is(&rt, &dst, &words);
+}

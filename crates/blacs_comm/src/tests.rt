@@ -1,4 +1,0 @@
-mod broadcasts;
-mod cases;
-mod cell;
-mod combines;

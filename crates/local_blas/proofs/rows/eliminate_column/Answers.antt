@@ -1,0 +1,27 @@
+use Rattle.std.proofs.Common.{◌+◌, ◌*◌, ◌%◌, ◌∙◌, ap, arith}
+use Rattle.run_data.specs.Matrix.{entry}
+use Rattle.run_data.proofs.Fills.{fill_starts, fill_goes_on, fill_ends_column, fill_ends, fill_reads_next}
+use Rattle.local_blas.proofs.Columns.{fill_reads_beside}
+use Rattle.local_blas.proofs.rows.eliminate_column.Goals as goal
+
+pub loop-i-init : goal.loop-i-init
+loop-i-init g c = fill_starts _ _ _ c.rows-shaped.ensures.shaped
+
+pub add_product-requires-clause-word : goal.add_product-requires-clause-word
+add_product-requires-clause-word g c =
+    rw (fill_reads_next _ _ _ _ _ _ _ c.loop-i.invariant c.get-word.ensures c.requires.part (omega arith) (omega arith)) (c.requires.words.below c.loop-i.i c.args.at.c0)
+
+pub add_product-requires-clause-left : goal.add_product-requires-clause-left
+add_product-requires-clause-left g c =
+    rw (fill_reads_beside _ _ _ _ _ _ _ _ _ c.loop-i.invariant c.get-multiplier.ensures c.requires.column c.requires.other (omega arith) c.requires.multipliers) (c.requires.words.below c.loop-i.i c.args.j)
+
+pub loop-i-preserved : goal.loop-i-preserved
+loop-i-preserved g c =
+    fill_goes_on _ _ _ _ _ _ _ _ c.loop-i.invariant c.set.ensures (omega arith) (omega arith) (omega arith) (omega arith)
+    (c.add_product.ensures
+    ∙ ap (λ x. (x + c.get-multiplier.result * c.args.negative) % g.K.Field.MODULUS) (fill_reads_next _ _ _ _ _ _ _ c.loop-i.invariant c.get-word.ensures c.requires.part (omega arith) (omega arith))
+    ∙ ap (λ x. (entry c.args.dst.now c.loop-i.i c.args.at.c0 + x * c.args.negative) % g.K.Field.MODULUS)
+    (fill_reads_beside _ _ _ _ _ _ _ _ _ c.loop-i.invariant c.get-multiplier.ensures c.requires.column c.requires.other (omega arith) c.requires.multipliers))
+
+pub returns : goal.returns
+returns g c = c.loop-i.invariant ∙ fill_ends_column _ _ _ _ _ (omega arith) ∙ fill_ends _ _ _ _ _ (omega arith)

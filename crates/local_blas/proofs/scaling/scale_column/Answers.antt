@@ -1,0 +1,18 @@
+use Rattle.std.proofs.Common.{◌*◌, ◌%◌, ◌∙◌, ap, arith}
+use Rattle.run_data.proofs.Fills.{fill_starts, fill_goes_on, fill_ends_column, fill_ends, fill_reads_next}
+use Rattle.local_blas.proofs.scaling.scale_column.Goals as goal
+
+pub loop-i-init : goal.loop-i-init
+loop-i-init g c = fill_starts _ _ _ c.rows-shaped.ensures.shaped
+
+pub mul-requires-clause-left : goal.mul-requires-clause-left
+mul-requires-clause-left g c =
+    rw (fill_reads_next _ _ _ _ _ _ _ c.loop-i.invariant c.get-word.ensures c.requires.dst_part (omega arith) (omega arith)) (c.requires.dst_words.below c.loop-i.i c.args.at.c0)
+
+pub loop-i-preserved : goal.loop-i-preserved
+loop-i-preserved g c =
+    fill_goes_on _ _ _ _ _ _ _ _ c.loop-i.invariant c.set.ensures (omega arith) (omega arith) (omega arith) (omega arith)
+    (c.mul.ensures ∙ ap (λ x. (x * c.args.a) % g.K.Field.MODULUS) (fill_reads_next _ _ _ _ _ _ _ c.loop-i.invariant c.get-word.ensures c.requires.dst_part (omega arith) (omega arith)))
+
+pub returns : goal.returns
+returns g c = c.loop-i.invariant ∙ fill_ends_column _ _ _ _ _ (omega arith) ∙ fill_ends _ _ _ _ _ (omega arith)

@@ -1,0 +1,24 @@
+use Rattle.std.proofs.Common.{◌-◌, ◌∙◌, sym, subst, arith}
+use Rattle.field_core.specs.Residue.{inverse}
+use Rattle.run_data.specs.Matrix.{AreWords}
+use Rattle.run_data.specs.Parts.{part_entry}
+use Rattle.run_data.proofs.Fills.{AreWords-with_done, fill_up_starts, fill_up_goes_on, fill_up_ends_column, fill_up_ends}
+use Rattle.local_blas.proofs.UpperSolutions.{upper_solution-below}
+use Rattle.local_blas.proofs.ColumnSolutions.{upper_goes_on}
+use Rattle.local_blas.proofs.solve.solve_upper_column.Goals as goal
+
+pub loop-i-init : goal.loop-i-init
+loop-i-init g c = fill_up_starts _ _ _ c.rows-shaped.ensures.shaped
+
+pub upper_word-word-requires-clause-dst_words : goal.upper_word-word-requires-clause-dst_words
+upper_word-word-requires-clause-dst_words g c =
+    subst (AreWords g.K.Field.MODULUS) (sym c.loop-i.invariant)
+    (AreWords-with_done _ _ _ _ _ (omega (arith, g.met.K.Field.at_least)) c.requires.dst_words (λ i j. upper_solution-below g.K.Field.MODULUS (inverse g.K.Field.MODULUS) c.args.unit (c.args.at.r1 - c.args.at.r0) (part_entry c.args.block.now c.args.bp) (λ k. part_entry c.args.dst.now c.args.at k (j - c.args.at.c0)) (i - c.args.at.r0) (omega (arith, g.met.K.Field.at_least))))
+
+pub loop-i-preserved : goal.loop-i-preserved
+loop-i-preserved g c =
+    fill_up_goes_on _ _ _ _ _ _ _ _ c.loop-i.invariant c.set.ensures (omega arith) (omega arith) (omega arith) (omega arith)
+    (c.upper_word-word.ensures ∙ upper_goes_on _ _ _ (part_entry c.args.block.now c.args.bp) _ _ _ _ c.loop-i.invariant c.requires.dst_part (omega arith) (omega arith) (omega arith))
+
+pub returns : goal.returns
+returns g c = c.loop-i.invariant ∙ fill_up_ends_column _ _ _ _ _ (omega arith) ∙ fill_up_ends _ _ _ _ _ (omega arith)

@@ -1,7 +1,0 @@
-use Rattle.std.proofs.Common.{refl}
-use Rattle.run_data.specs.Matrix as m
-use Rattle.rank_memory.proofs.tests.sends_pieces.Goals as goal
-
-pub check_sent-requires-2 : goal.check_sent-requires-2
-unfolding m.tabulate m.entry
-check_sent-requires-2 g c = record { live = refl; held = refl }

@@ -1,0 +1,34 @@
+use Rattle.std.proofs.Common.{◌≡◌, ◌==◌, ◌&&◌, nat_lt, OnOk, sym, subst}
+use Rattle.std.proofs.lemmas.Bool.{and_parts, eqb-true, ltb-true}
+use Rattle.field_core.specs.Residue.{inverse}
+use Rattle.run_data.specs.Matrix.{cols}
+use Rattle.local_blas.specs.Kernels.{with_eliminated}
+use Rattle.rank_machine.specs.Setting.{Layout, global_row}
+use Rattle.rank_machine.specs.Effect.{area}
+use Rattle.rank_machine.specs.Legal.{height, breadth}
+use Rattle.script_lines.specs.Lines.{setting_on}
+use Rattle.rank_slots.proofs.TestLaws.{in_matrix-member}
+use Rattle.rank_memory.specs.Places.{layout_of}
+use Rattle.rank_memory.proofs.words.eliminate_words.Goals as goal
+
+pub eliminate_below-requires-clause-member : goal.eliminate_below-requires-clause-member
+eliminate_below-requires-clause-member g c =
+    in_matrix-member (setting_on 0 c.args.table.now) c.args.rank c.args.slot (layout_of c.located-placed.result) c.located-placed.ensures.layout c.requires.placed
+
+pub eliminate_below-requires-clause-column : goal.eliminate_below-requires-clause-column
+eliminate_below-requires-clause-column g c = ltb-true c.args.j (cols c.args.dst.now) (and_parts ((height (area c.args.x c.args.row.now) == 1) && (breadth (area c.args.x c.args.row.now) == cols c.args.dst.now)) (nat_lt c.args.j (cols c.args.dst.now)) c.requires.shape).1
+
+pub eliminate_below-requires-clause-row_rows : goal.eliminate_below-requires-clause-row_rows
+eliminate_below-requires-clause-row_rows g c =
+    let h = and_parts ((height (area c.args.x c.args.row.now) == 1) && (breadth (area c.args.x c.args.row.now) == cols c.args.dst.now)) (nat_lt c.args.j (cols c.args.dst.now)) c.requires.shape in
+    eqb-true (height (area c.args.x c.args.row.now)) 1 (and_parts (height (area c.args.x c.args.row.now) == 1) (breadth (area c.args.x c.args.row.now) == cols c.args.dst.now) h.0).0
+
+pub eliminate_below-requires-clause-row_columns : goal.eliminate_below-requires-clause-row_columns
+eliminate_below-requires-clause-row_columns g c =
+    let h = and_parts ((height (area c.args.x c.args.row.now) == 1) && (breadth (area c.args.x c.args.row.now) == cols c.args.dst.now)) (nat_lt c.args.j (cols c.args.dst.now)) c.requires.shape in
+    eqb-true (breadth (area c.args.x c.args.row.now)) (cols c.args.dst.now) (and_parts (height (area c.args.x c.args.row.now) == 1) (breadth (area c.args.x c.args.row.now) == cols c.args.dst.now) h.0).1
+
+pub returns : goal.returns
+returns g c =
+    subst (λ (d : Layout). OnOk c.eliminate_below.result (c.eliminate_below.new.dst ≡ with_eliminated g.K.Field.MODULUS (inverse g.K.Field.MODULUS) c.args.dst.now (λ i. nat_lt c.args.above (global_row d c.args.rank i)) c.args.j c.args.row.now (area c.args.x c.args.row.now)))
+    (sym c.located-placed.ensures.layout) c.eliminate_below.ensures

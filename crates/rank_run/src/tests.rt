@@ -1,4 +1,0 @@
-mod counter;
-mod plain;
-mod rounds;
-mod word;

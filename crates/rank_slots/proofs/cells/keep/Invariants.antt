@@ -1,6 +1,0 @@
-use Rattle.std.proofs.Common.{◌≡◌, ◌++◌, map, take, drop}
-use Rattle.rank_slots.proofs.Kept.{settled}
-use Rattle.rank_slots.proofs.cells.keep.Given as goal
-
-abbrev pub invariant-loop-cell : goal.invariant-loop-cell
-invariant-loop-cell l = l.cell-items ≡ map settled (take l.cell-index l.initial.cell-items) ++ drop l.cell-index l.initial.cell-items
