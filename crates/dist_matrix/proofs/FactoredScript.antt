@@ -11,7 +11,7 @@ use Rattle.script_lines.specs.Layouts.{AreGrids, IsLayout, jobs_of, makes_matrix
 
 abbrev pub lines : List (Option Command)
 lines =
-    Some (c.Grid (codes "g") 3 1 0) ∷ Some (c.Grid (codes "h") 1 2 1) ∷ Some (c.Matrix (codes "A") (codes "h") 3 2 1 1 0 0 (codes "a"))
+    Some (c.Grid (codes "g") 3 1 0) ∷ Some (c.Grid (codes "h") 1 2 2) ∷ Some (c.Matrix (codes "A") (codes "h") 3 2 1 1 0 0 (codes "a"))
     ∷ Some (c.Pgetrf 3 2 (codes "A") 1 1 (codes "v")) ∷ None ∷ Some (c.Discard (codes "A")) ∷ Some (c.Discard (codes "v")) ∷ []
 
 -- each matrix of some jobs is laid out

@@ -4,4 +4,8 @@ pub mod Cutting
 pub mod Placing
 pub mod SiteGrids
 pub mod SiteLaws
+pub mod StripSums
+pub mod Encoding
+pub mod CodeStrips
 mod FactoredScript
+mod CodeExamples

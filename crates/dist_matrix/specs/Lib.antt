@@ -1,3 +1,4 @@
 pub mod Strips
 pub mod Site
 pub mod SiteFields
+pub mod Encode

@@ -15,7 +15,7 @@ use blacs_grid::Grid;
 use rank_machine::Mark;
 use run_data::Script;
 use script_lines::{
-    Line, factoring, find, grids_of, is_live_list, is_live_matrix, layout_at, lines_of,
+    Layout, Line, factoring, find, grids_of, is_live_list, is_live_matrix, layout_at, lines_of,
 };
 use std::alloc::{AllocError as NoMemory, Global};
 use std::marker::Model;
@@ -105,6 +105,15 @@ impl<'a> Site<'a> {
         ensures on_grid { IfSome result (λ d. (layout (setting_in self.now) line).grid ≡ grid_numbered (setting_in self.now) d.ctxt) }
     {
         shape_in(&self.table, line)
+    }
+
+    /// Where the matrix that a line makes lies, whether it is there or not; where a line makes none, as a matrix of one word on one
+    /// rank without code columns.
+    pub(crate) fn layout(&self, line: u32) -> Layout
+        ensures value { lines.seen result ≡ layout (setting_in self.now) line }
+        ensures laid_out { lines.IsLayout (lines.seen result) }
+    {
+        layout_at(&self.table, line)
     }
 
     /// The descriptor of the matrix that a line made, while it is there. None exactly where no matrix of that line is live.

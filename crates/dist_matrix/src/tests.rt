@@ -1,6 +1,7 @@
 ghost use Rattle.array_desc.specs.Descriptors.{IsDesc};
 ghost use Rattle.blacs_grid.specs.Limits.{IsGrid};
 
+mod encode;
 mod site;
 
 use super::*;

@@ -10,8 +10,8 @@ use std::test::Fail;
 
 /// Lines 1 and 2 make the grids g and h, line 3 the matrix A on h, line 4 its factors and the pivots v, and lines 6 and 7 drop A
 /// and v. Line 5 has no words.
-fn script_of(alloc: Global) -> Result<Script, NoMemory>
-    ensures { IfOk result (λ s. s ≡ Some (Command.Grid (codes "g") 3 1 0) ∷ Some (Command.Grid (codes "h") 1 2 1)
+pub fn script_of(alloc: Global) -> Result<Script, NoMemory>
+    ensures { IfOk result (λ s. s ≡ Some (Command.Grid (codes "g") 3 1 0) ∷ Some (Command.Grid (codes "h") 1 2 2)
         ∷ Some (Command.Matrix (codes "A") (codes "h") 3 2 1 1 0 0 (codes "a")) ∷ Some (Command.Pgetrf 3 2 (codes "A") 1 1 (codes "v"))
         ∷ None ∷ Some (Command.Discard (codes "A")) ∷ Some (Command.Discard (codes "v")) ∷ []) }
 {
@@ -26,7 +26,7 @@ fn script_of(alloc: Global) -> Result<Script, NoMemory>
         name: Word::new(alloc, b"h")?,
         p: 1,
         q: 2,
-        f: 1,
+        f: 2,
     }))?;
     script.push(Some(Command::Matrix {
         name: Word::new(alloc, b"A")?,
@@ -77,7 +77,7 @@ fn names_grids_and_shapes(rt: HostRuntime) -> Result<(), Fail> {
     assert_eq!(rt; site.grids(), 2);
     assert!(rt; site.grids() == 2);
     let grid = site.grid(1);
-    assert_eq!(rt; (grid.p, grid.q, grid.f, grid.first), (1, 2, 1, 3));
+    assert_eq!(rt; (grid.p, grid.q, grid.f, grid.first), (1, 2, 2, 3));
     assert_eq!(rt; site.shape(3), Desc::new(1, 1, 2, 3, 2, 1, 1, 0, 0).ok());
     for line in [0, 1, 2, 4, 5, 6, 7, 8] {
         assert!(rt; site.shape(line).is_none(), "line {line}");

@@ -1,0 +1,9 @@
+use Rattle.std.proofs.Common.{refl}
+use Rattle.run_data.specs.Matrix.{tabulate}
+use Rattle.world_tests.specs.OneMatrix.{setting}
+use Rattle.world_tests.specs.Play.{may_make, may_play}
+use Rattle.world_tests.proofs.tests.without_losses.Goals as goal
+
+pub played-requires-clause-legal : goal.played-requires-clause-legal
+unfolding tabulate setting may_make may_play
+played-requires-clause-legal g c = refl
