@@ -1,7 +1,7 @@
 -- The array descriptor of a dense matrix (ScaLAPACK Users' Guide, section 4.3.3; TOOLS routine DESCINIT).
 use Rattle.std.specs.Prelude.{◌≡◌, ℕ, ◌<◌, ◌≤◌, Bool, ◌&&◌, not, nat_lt, nat_le, Option, List, [], ◌∷◌, find, option_map}
 use Rattle.array_desc.specs.declared.Desc.{Desc}
-use Rattle.array_desc.specs.declared.TheConstants.{MAX_SIZE, MAX_BLOCK}
+use Rattle.array_desc.specs.Limits.{size_limit, block_limit}
 use Rattle.array_desc.specs.Maps.{most_rows}
 
 -- whether n is from 1 to the limit
@@ -11,8 +11,8 @@ is_between_one_and limit n = nat_le 1 n && nat_le n limit
 -- the entries that a caller gives, by their numbers in the descriptor, each with whether it is in its range
 abbrev pub checked_entries : ℕ → ℕ → ℕ → ℕ → ℕ → ℕ → ℕ → ℕ → List (ℕ × Bool)
 checked_entries p q m n mb nb rsrc csrc =
-    (3, is_between_one_and MAX_SIZE m) ∷ (4, is_between_one_and MAX_SIZE n)
-    ∷ (5, is_between_one_and MAX_BLOCK mb) ∷ (6, is_between_one_and MAX_BLOCK nb)
+    (3, is_between_one_and size_limit m) ∷ (4, is_between_one_and size_limit n)
+    ∷ (5, is_between_one_and block_limit mb) ∷ (6, is_between_one_and block_limit nb)
     ∷ (7, nat_lt rsrc p) ∷ (8, nat_lt csrc q) ∷ []
 
 -- the number of the first entry out of its range, if there is one
@@ -29,13 +29,13 @@ desc_of ctxt p q m n mb nb rsrc csrc =
 pub record IsDesc (p q : ℕ) (d : Desc) : Type 0 where
   pub dense : d.dtype ≡ 1
   pub some_rows : 1 ≤ d.m
-  pub rows : d.m ≤ MAX_SIZE
+  pub rows : d.m ≤ size_limit
   pub some_columns : 1 ≤ d.n
-  pub columns : d.n ≤ MAX_SIZE
+  pub columns : d.n ≤ size_limit
   pub some_block_rows : 1 ≤ d.mb
-  pub block_rows : d.mb ≤ MAX_BLOCK
+  pub block_rows : d.mb ≤ block_limit
   pub some_block_columns : 1 ≤ d.nb
-  pub block_columns : d.nb ≤ MAX_BLOCK
+  pub block_columns : d.nb ≤ block_limit
   pub row_source : d.rsrc < p
   pub column_source : d.csrc < q
   pub local_rows : d.lld ≡ most_rows d.m d.mb p d.rsrc

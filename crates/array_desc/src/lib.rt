@@ -7,6 +7,7 @@
 
 ghost use Rattle.std.specs.Prelude.{◌≡◌, ℕ, ◌+◌, ◌-◌, ◌*◌, ◌/◌, ◌%◌, ◌^◌, ◌<◌, ◌≤◌, ◌↔◌, Some, None, IsOk, IfOk, IfErr};
 ghost use Rattle.array_desc.specs.Maps.{owner, local, distance, global, numroc, AreNumbered, groups, group_of, ceil_div, block_in};
+ghost use Rattle.array_desc.specs.Limits.{process_limit};
 ghost use Rattle.array_desc.specs.Descriptors.{first_bad_entry, desc_of, IsDesc};
 
 /// The greatest number of rows and of columns of a matrix.
@@ -14,9 +15,6 @@ pub const MAX_SIZE: u32 = 1024;
 
 /// The greatest number of rows and of columns of a block.
 pub const MAX_BLOCK: u32 = 128;
-
-/// The greatest number of process rows and of process columns of a grid.
-pub const MAX_PROCESSES: u32 = 16;
 
 /// An array descriptor: how a matrix lies on a process grid.
 ///
@@ -67,9 +65,9 @@ impl Desc {
         csrc: u32,
     ) -> Result<Desc, BadEntry>
         requires some_process_rows { 1 ≤ p }
-        requires process_rows { p ≤ MAX_PROCESSES }
+        requires process_rows { p ≤ process_limit }
         requires some_process_columns { 1 ≤ q }
-        requires process_columns { q ≤ MAX_PROCESSES }
+        requires process_columns { q ≤ process_limit }
         ensures accepted { IsOk result ↔ (first_bad_entry p q m n mb nb rsrc csrc ≡ None) }
         ensures made { IfOk result (λ desc. desc ≡ desc_of ctxt p q m n mb nb rsrc csrc) }
         ensures in_range { IfOk result (IsDesc p q) }

@@ -1,7 +1,4 @@
 //! Values that end a test where memory runs out, and one comparison for each type.
-ghost use Rattle.std.specs.Prelude.{◌≡◌};
-ghost use Rattle.run_data.specs.Matrix.{cols};
-
 use run_data::Mat;
 use std::alloc::Global;
 use std::process::Abort;
@@ -26,10 +23,7 @@ pub(crate) fn check_is(rt: &impl Abort, m: &Mat, want: &[u32]) {
 }
 
 /// Stops where a matrix has another shape.
-pub(crate) fn check_shape(rt: &impl Abort, m: &Mat, height: u32, width: u32)
-    ensures rows { m.now.rows ≡ height }
-    ensures columns { cols m.now ≡ width }
-{
+pub(crate) fn check_shape(rt: &impl Abort, m: &Mat, height: u32, width: u32) {
     assert!(rt; m.rows() == height && m.cols() == width);
 }
 

@@ -85,6 +85,13 @@ fn is_zero_elsewhere(coefs: &Coefs, lost: &[bool], q: u32, n: u32, needed: u32) 
     true
 }
 
+/// Whether a bit of a pattern is 1.
+fn has_bit(pattern: u32, bit: u32) -> bool
+    requires { bit < 32 }
+{
+    pattern >> bit & 1 == 1
+}
+
 /// Which symbols a pattern loses: those whose bits are 1.
 fn lost_of(alloc: Global, n: u32, pattern: u32) -> Result<Vec<bool>, NoMemory>
     requires { n ≤ 20 }
@@ -92,7 +99,7 @@ fn lost_of(alloc: Global, n: u32, pattern: u32) -> Result<Vec<bool>, NoMemory>
 {
     let mut lost = Vec::new(alloc);
     for i in 0..n {
-        lost.push(pattern >> i & 1 == 1)?;
+        lost.push(has_bit(pattern, i))?;
     }
     Ok(lost)
 }

@@ -38,12 +38,18 @@ fn copy_with(rt: &impl Abort, alloc: Global, m: &mut Mat, i: u32, j: u32, word: 
     m.copy(alloc).expect(rt, "memory for a copy")
 }
 
+/// The word in a row and a column.
+fn word_at(rt: &impl Abort, m: &Mat, i: u32, j: u32) -> u32 {
+    assert!(rt; i < m.rows() && j < m.cols());
+    m.get(i, j)
+}
+
 #[test]
 fn reads_and_writes(rt: HostRuntime) {
     let alloc = rt.alloc();
     let mut m = matrix(&rt, alloc, 2, 3, &[1, 2, 3, 4, 5, 6]);
     check_shape(&rt, &m, 2, 3);
-    let last = m.get(1, 2);
+    let last = word_at(&rt, &m, 1, 2);
     let below = [m.has_words_below(7), m.has_words_below(6)];
     let copy = copy_with(&rt, alloc, &mut m, 0, 1, 9);
     let strip = zeros(&rt, alloc, 0, 3);
@@ -197,11 +203,8 @@ fn script(rt: &impl Abort, alloc: Global) -> Script {
 
 /// Stops where a word of a line means another line, or one where it should mean none.
 fn check_operand(rt: &impl Abort, script: &Script, line: u32, word: u32, meant: Option<u32>) {
-    assert_eq!(rt;
-        script.operand(line, word),
-        meant,
-        "word {word} of line {line}"
-    );
+    let found = script.operand(line, word);
+    assert!(rt; found == meant, "word {word} of line {line}");
 }
 
 /// Stops where a command is missing from a line, or there where none should be.
@@ -348,44 +351,77 @@ fn pgemr2d(rt: &impl Abort, alloc: Global) -> Command {
     }
 }
 
-/// Stops where a line makes records and should not, or the other way round.
-fn check_records(rt: &impl Abort, line: Command, makes: bool) {
-    assert!(rt; line.makes_records() == makes);
+/// Whether the command of a line makes records, if the line has one.
+fn makes_records(script: &Script, line: u32) -> Option<bool> {
+    match script.command(line) {
+        Some(command) => Some(command.makes_records()),
+        None => None,
+    }
+}
+
+/// Stops where one of the first lines of a script makes records and should not, or the other way round.
+fn check_records(rt: &impl Abort, script: &Script, lines: u32, makes: bool) {
+    assert!(rt; script.lines() == lines);
+    for i in 0..lines {
+        assert!(rt; makes_records(script, i + 1) == Some(makes), "line {i}");
+    }
 }
 
 #[test]
 fn computing_lines_make_records(rt: HostRuntime) {
-    check_records(&rt, pgemm(&rt, rt.alloc()), true);
-    check_records(&rt, ptrsm(&rt, rt.alloc()), true);
-    check_records(&rt, pgetrf(&rt, rt.alloc()), true);
-    check_records(&rt, pgetrs(&rt, rt.alloc()), true);
-    check_records(&rt, pgemr2d(&rt, rt.alloc()), true);
+    let mut script = Script::new(rt.alloc());
+    push(&rt, &mut script, Some(pgemm(&rt, rt.alloc())));
+    push(&rt, &mut script, Some(ptrsm(&rt, rt.alloc())));
+    push(&rt, &mut script, Some(pgetrf(&rt, rt.alloc())));
+    push(&rt, &mut script, Some(pgetrs(&rt, rt.alloc())));
+    push(&rt, &mut script, Some(pgemr2d(&rt, rt.alloc())));
+    check_records(&rt, &script, 5, true);
+}
+
+fn print_line(rt: &impl Abort, alloc: Global) -> Command {
+    let name = word(rt, alloc, b"A");
+    Command::Print { name }
+}
+
+fn pivots_line(rt: &impl Abort, alloc: Global) -> Command {
+    let name = word(rt, alloc, b"A");
+    Command::Pivots { name }
 }
 
 #[test]
 fn lines_on_one_name_make_records(rt: HostRuntime) {
-    check_records(&rt, matrix_line(&rt, rt.alloc()), true);
-    let name = word(&rt, rt.alloc(), b"A");
-    check_records(&rt, Command::Print { name }, true);
-    let name = word(&rt, rt.alloc(), b"A");
-    check_records(&rt, Command::Pivots { name }, true);
-    check_records(&rt, drop_line(&rt, rt.alloc()), true);
+    let mut script = Script::new(rt.alloc());
+    push(&rt, &mut script, Some(matrix_line(&rt, rt.alloc())));
+    push(&rt, &mut script, Some(print_line(&rt, rt.alloc())));
+    push(&rt, &mut script, Some(pivots_line(&rt, rt.alloc())));
+    push(&rt, &mut script, Some(drop_line(&rt, rt.alloc())));
+    check_records(&rt, &script, 4, true);
+}
+
+fn topology_line(rt: &impl Abort, alloc: Global) -> Command {
+    let kind = word(rt, alloc, b"A");
+    Command::Topology { kind }
+}
+
+fn order_line(alloc: Global) -> Command {
+    let numbers = IndexList::new(alloc);
+    Command::Order { numbers }
 }
 
 #[test]
 fn lines_that_make_no_records(rt: HostRuntime) {
-    check_records(&rt, grid_line(&rt, rt.alloc(), b"A"), false);
-    let kind = word(&rt, rt.alloc(), b"A");
-    check_records(&rt, Command::Topology { kind }, false);
-    check_records(&rt, Command::Links { n: 1 }, false);
-    let numbers = IndexList::new(rt.alloc());
-    check_records(&rt, Command::Order { numbers }, false);
-    check_records(&rt, Command::Lose { at: 0, rank: 0 }, false);
+    let mut script = Script::new(rt.alloc());
+    push(&rt, &mut script, Some(grid_line(&rt, rt.alloc(), b"A")));
+    push(&rt, &mut script, Some(topology_line(&rt, rt.alloc())));
+    push(&rt, &mut script, Some(Command::Links { n: 1 }));
+    push(&rt, &mut script, Some(order_line(rt.alloc())));
+    push(&rt, &mut script, Some(Command::Lose { at: 0, rank: 0 }));
+    push(&rt, &mut script, Some(Command::Spares { n: 0 }));
+    check_records(&rt, &script, 6, false);
 }
 
 #[test]
 fn the_spares_line_counts(rt: HostRuntime) {
-    check_records(&rt, Command::Spares { n: 0 }, false);
     let mut script = Script::new(rt.alloc());
     let before = script.spares();
     push(&rt, &mut script, None);

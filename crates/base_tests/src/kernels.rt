@@ -52,36 +52,85 @@ fn check_diagonal(rt: &impl Abort, block: &Mat, bp: Part, unit: bool)
     }
 }
 
-/// Solves for all of `dst` by all of `block`.
-fn solve<K: Field>(rt: &impl Abort, dst: &mut Mat, block: &Mat, is_lower: bool, unit: bool) {
+/// Solves for all of `dst` by the lower triangle of all of `block`.
+fn solve_below<K: Field>(rt: &impl Abort, dst: &mut Mat, block: &Mat, unit: bool) {
     let at = whole(dst);
     let bp = whole(block);
     assert!(rt; bp.r1 - bp.r0 == bp.c1 - bp.c0 && at.r1 - at.r0 == bp.r1 - bp.r0);
     check_words::<K>(rt, dst);
     check_words::<K>(rt, block);
     check_diagonal(rt, block, bp, unit);
-    if is_lower {
-        solve_lower::<K>(dst, at, block, bp, unit);
-    } else {
-        solve_upper::<K>(dst, at, block, bp, unit);
-    }
+    solve_lower::<K>(dst, at, block, bp, unit);
+}
+
+/// Solves for all of `dst` by the upper triangle of all of `block`.
+fn solve_above<K: Field>(rt: &impl Abort, dst: &mut Mat, block: &Mat, unit: bool) {
+    let at = whole(dst);
+    let bp = whole(block);
+    assert!(rt; bp.r1 - bp.r0 == bp.c1 - bp.c0 && at.r1 - at.r0 == bp.r1 - bp.r0);
+    check_words::<K>(rt, dst);
+    check_words::<K>(rt, block);
+    check_diagonal(rt, block, bp, unit);
+    solve_upper::<K>(dst, at, block, bp, unit);
+}
+
+/// Scales a part.
+fn scale_part<K: Field>(rt: &impl Abort, dst: &mut Mat, at: Part, b: u32) {
+    assert!(rt; b < K::MODULUS);
+    check_within(rt, at, dst);
+    check_words::<K>(rt, dst);
+    scale::<K>(dst, at, b);
+}
+
+/// Adds `a` times a product.
+fn add_product<K: Field>(rt: &impl Abort, dst: &mut Mat, a: u32, left: &Mat, right: &Mat) {
+    let at = whole(dst);
+    let lp = whole(left);
+    let rp = whole(right);
+    assert!(rt; a < K::MODULUS && lp.c1 - lp.c0 == rp.r1 - rp.r0);
+    assert!(rt; at.r1 - at.r0 == lp.r1 - lp.r0 && at.c1 - at.c0 == rp.c1 - rp.c0);
+    check_words::<K>(rt, dst);
+    check_words::<K>(rt, left);
+    check_words::<K>(rt, right);
+    mul_add::<K>(dst, at, a, left, lp, right, rp);
 }
 
 /// Scales all of `dst` by `b`, and adds `a` times the product.
 fn multiply<K: Field>(rt: &impl Abort, b: u32, dst: &mut Mat, a: u32, left: &Mat, right: &Mat) {
     let at = whole(dst);
-    let lp = whole(left);
-    let rp = whole(right);
-    assert!(rt; a < K::MODULUS && b < K::MODULUS);
-    check_words::<K>(rt, dst);
-    scale::<K>(dst, at, b);
+    scale_part::<K>(rt, dst, at, b);
+    add_product::<K>(rt, dst, a, left, right);
+}
+
+/// Adds `a` times a part to another of the same shape.
+fn add_part<K: Field>(rt: &impl Abort, dst: &mut Mat, at: Part, a: u32, src: &Mat, sp: Part) {
+    assert!(rt; a < K::MODULUS);
     check_within(rt, at, dst);
+    check_within(rt, sp, src);
     check_words::<K>(rt, dst);
-    check_words::<K>(rt, left);
-    check_words::<K>(rt, right);
-    assert!(rt; at.r1 - at.r0 == lp.r1 - lp.r0 && at.c1 - at.c0 == rp.c1 - rp.c0);
-    assert!(rt; lp.c1 - lp.c0 == rp.r1 - rp.r0);
-    mul_add::<K>(dst, at, a, left, lp, right, rp);
+    check_words::<K>(rt, src);
+    assert!(rt; at.r1 - at.r0 == sp.r1 - sp.r0 && at.c1 - at.c0 == sp.c1 - sp.c0);
+    add_scaled::<K>(dst, at, a, src, sp);
+}
+
+/// Copies a part over another of the same shape.
+fn put(rt: &impl Abort, dst: &mut Mat, at: Part, src: &Mat, sp: Part) {
+    check_within(rt, at, dst);
+    check_within(rt, sp, src);
+    assert!(rt; at.r1 - at.r0 == sp.r1 - sp.r0 && at.c1 - at.c0 == sp.c1 - sp.c0);
+    put_part(dst, at, src, sp);
+}
+
+/// Exchanges two rows.
+fn swap(rt: &impl Abort, m: &mut Mat, i: u32, j: u32) {
+    assert!(rt; i < m.rows() && j < m.rows());
+    swap_rows(m, i, j);
+}
+
+/// The first row from `from` on whose word in column `j` is not 0.
+fn first(rt: &impl Abort, m: &Mat, j: u32, from: u32) -> Option<u32> {
+    assert!(rt; j < m.cols() && from <= m.rows());
+    first_nonzero(m, j, from)
 }
 
 /// Eliminates column `j` below row `from` by a row.
@@ -123,22 +172,22 @@ fn solves(rt: HostRuntime) {
     let alloc = rt.alloc();
     let lower = matrix(&rt, alloc, 2, 2, &[2, 1, 0, 1]);
     let mut x = matrix(&rt, alloc, 2, 1, &[3, 5]);
-    solve::<F65537>(&rt, &mut x, &lower, true, false);
+    solve_below::<F65537>(&rt, &mut x, &lower, false);
     check_is(&rt, &x, &[32770, 32772]);
     let mut x = matrix(&rt, alloc, 2, 1, &[3, 5]);
-    solve::<F65537>(&rt, &mut x, &lower, true, true);
+    solve_below::<F65537>(&rt, &mut x, &lower, true);
     check_is(&rt, &x, &[3, 2]);
     let factors = matrix(&rt, alloc, 2, 2, &[2, 32769, 1, 32769]);
     let mut x = matrix(&rt, alloc, 2, 1, &[5, 3]);
-    solve::<F65537>(&rt, &mut x, &factors, true, true);
-    solve::<F65537>(&rt, &mut x, &factors, false, false);
+    solve_below::<F65537>(&rt, &mut x, &factors, true);
+    solve_above::<F65537>(&rt, &mut x, &factors, false);
     check_is(&rt, &x, &[2, 1]);
     let upper = matrix(&rt, alloc, 3, 3, &[2, 0, 0, 7, 5, 0, 11, 13, 9]);
     let mut x = matrix(&rt, alloc, 3, 2, &[1, 2, 3, 100, 200, 65536]);
-    solve::<F65537>(&rt, &mut x, &upper, false, false);
+    solve_above::<F65537>(&rt, &mut x, &upper, false);
     check_is(&rt, &x, &[6554, 48060, 21846, 13017, 45188, 58255]);
     let mut x = matrix(&rt, alloc, 3, 1, &[1, 2, 3]);
-    solve::<F65537>(&rt, &mut x, &upper, false, true);
+    solve_above::<F65537>(&rt, &mut x, &upper, true);
     check_is(&rt, &x, &[227, 65500, 3]);
 }
 
@@ -146,17 +195,18 @@ fn solves(rt: HostRuntime) {
 fn rows(rt: HostRuntime) {
     let alloc = rt.alloc();
     let mut m = matrix(&rt, alloc, 3, 3, &[0, 7, 2, 1, 11, 3, 4, 13, 5]);
-    check_shape(&rt, &m, 3, 3);
-    check_number(&rt, first_nonzero(&m, 0, 0), Some(1));
-    check_number(&rt, first_nonzero(&m, 0, 3), None);
-    swap_rows(&mut m, 0, 2);
+    let found = first(&rt, &m, 0, 0);
+    let none = first(&rt, &m, 0, 3);
+    swap(&rt, &mut m, 0, 2);
     check_is(&rt, &m, &[2, 7, 0, 3, 11, 1, 5, 13, 4]);
     let row = matrix(&rt, alloc, 1, 3, &[2, 3, 5]);
     eliminate_below::<F65537>(&rt, &mut m, 1, 0, &row);
-    check_is(&rt, &m, &[2, 32772, 0, 3, 32769, 1, 5, 32764, 4]);
     let mut square = matrix(&rt, alloc, 2, 2, &[2, 1, 1, 1]);
     let pivot = matrix(&rt, alloc, 1, 2, &[2, 1]);
     eliminate_below::<F65537>(&rt, &mut square, 1, 0, &pivot);
+    check_number(&rt, found, Some(1));
+    check_number(&rt, none, None);
+    check_is(&rt, &m, &[2, 32772, 0, 3, 32769, 1, 5, 32764, 4]);
     check_is(&rt, &square, &[2, 32769, 1, 32769]);
 }
 
@@ -177,14 +227,9 @@ fn parts(rt: HostRuntime) {
         c0: 1,
         c1: 2,
     };
-    check_within(&rt, at, &dst);
-    check_within(&rt, sp, &src);
-    check_words::<F65537>(&rt, &dst);
-    check_words::<F65537>(&rt, &src);
-    add_scaled::<F65537>(&mut dst, at, 10, &src, sp);
+    add_part::<F65537>(&rt, &mut dst, at, 10, &src, sp);
     check_is(&rt, &dst, &[1, 22, 65530, 4, 5, 6, 7, 8, 9]);
-    check_within(&rt, at, &dst);
-    put_part(&mut dst, at, &src, sp);
+    put(&rt, &mut dst, at, &src, sp);
     check_is(&rt, &dst, &[1, 2, 65536, 4, 5, 6, 7, 8, 9]);
 }
 
@@ -194,19 +239,18 @@ fn matrices_of_no_words(rt: HostRuntime) {
     let square = matrix(&rt, alloc, 2, 2, &[2, 1, 0, 1]);
     let none = zeros(&rt, alloc, 2, 0);
     let mut no_columns = zeros(&rt, alloc, 2, 0);
-    check_shape(&rt, &no_columns, 2, 0);
-    swap_rows(&mut no_columns, 0, 1);
+    swap(&rt, &mut no_columns, 0, 1);
     multiply::<F65537>(&rt, 5, &mut no_columns, 7, &square, &none);
-    solve::<F65537>(&rt, &mut no_columns, &square, true, false);
-    solve::<F65537>(&rt, &mut no_columns, &square, false, true);
+    solve_below::<F65537>(&rt, &mut no_columns, &square, false);
+    solve_above::<F65537>(&rt, &mut no_columns, &square, true);
     check_shape(&rt, &no_columns, 2, 0);
     check_is(&rt, &no_columns, &[]);
     let empty = zeros(&rt, alloc, 0, 0);
     let mut no_rows = zeros(&rt, alloc, 0, 3);
-    check_shape(&rt, &no_rows, 0, 3);
-    check_number(&rt, first_nonzero(&no_rows, 2, 0), None);
-    solve::<F65537>(&rt, &mut no_rows, &empty, true, false);
-    solve::<F65537>(&rt, &mut no_rows, &empty, false, false);
+    let found = first(&rt, &no_rows, 2, 0);
+    solve_below::<F65537>(&rt, &mut no_rows, &empty, false);
+    solve_above::<F65537>(&rt, &mut no_rows, &empty, false);
+    check_number(&rt, found, None);
     check_shape(&rt, &no_rows, 0, 3);
     check_is(&rt, &no_rows, &[]);
 }
@@ -223,16 +267,9 @@ fn parts_of_no_width(rt: HostRuntime) {
         c0: 1,
         c1: 1,
     };
-    check_within(&rt, at, &src);
-    check_words::<F65537>(&rt, &src);
-    check_within(&rt, at, &dst);
-    check_words::<F65537>(&rt, &dst);
-    add_scaled::<F65537>(&mut dst, at, 10, &src, at);
-    check_within(&rt, at, &dst);
-    put_part(&mut dst, at, &src, at);
-    check_within(&rt, at, &dst);
-    check_words::<F65537>(&rt, &dst);
-    scale::<F65537>(&mut dst, at, 0);
+    add_part::<F65537>(&rt, &mut dst, at, 10, &src, at);
+    put(&rt, &mut dst, at, &src, at);
+    scale_part::<F65537>(&rt, &mut dst, at, 0);
     let left = zeros(&rt, alloc, 2, 0);
     let right = zeros(&rt, alloc, 0, 3);
     multiply::<F65537>(&rt, 1, &mut dst, 7, &left, &right);

@@ -81,18 +81,21 @@ fn compare_maps(rt: &impl Abort, row: &[u32; 11]) {
     let [n, nb, proc, src, procs, count, g, holder, place, l, index] = *row;
     assert!(rt; nb > 0 && proc < procs && src < procs, "{row:?}");
     let size = numroc(n, nb, proc, src, procs);
-    assert_eq!(rt; size, count, "{row:?}");
-    assert_eq!(rt; owner(g, nb, src, procs), holder, "{row:?}");
-    assert_eq!(rt; local(g, nb, procs), place, "{row:?}");
     assert!(rt; l < size, "{row:?}");
-    assert_eq!(rt; global(l, nb, proc, src, procs), index, "{row:?}");
+    let found = [
+        size,
+        owner(g, nb, src, procs),
+        local(g, nb, procs),
+        global(l, nb, proc, src, procs),
+    ];
+    check_numbers(rt, &found, &[count, holder, place, index]);
 }
 
 /// Compares `numroc` with a row of `NONE`.
 fn compare_none(rt: &impl Abort, row: &[u32; 5]) {
     let [n, nb, proc, src, procs] = *row;
     assert!(rt; nb > 0 && proc < procs && src < procs, "{row:?}");
-    assert_eq!(rt; numroc(n, nb, proc, src, procs), 0, "{row:?}");
+    check_numbers(rt, &[numroc(n, nb, proc, src, procs)], &[0]);
 }
 
 #[test]

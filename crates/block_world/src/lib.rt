@@ -10,6 +10,3 @@ pub use rank_memory::RankMem;
 pub use rank_run::{Event, Order, Ran, Round};
 pub use run_data::{Command, Files, IndexList, Mat, Part, Script, Word};
 pub use world::{Did, Taken, World};
-
-#[cfg(test)]
-mod tests;

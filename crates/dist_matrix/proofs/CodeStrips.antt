@@ -72,4 +72,4 @@ module _ (s : Setting) (st : State) (d : Layout) (line group : ℕ) (can : CanEn
   }
 
   pub keeps_run : KeepsRun st now
-  keeps_run = let r = encode_replays in record { links = r.links; live = r.live; saved = r.saved; mark = r.mark; lost = r.lost; taken = r.taken; committed = r.committed }
+  keeps_run = let r = encode_replays in record { links = r.links; live = r.live; saved = r.saved; mark = r.mark; lost = r.lost; taken = r.taken; committed = r.committed; spawned = r.spawned }

@@ -7,5 +7,4 @@ pub mod SiteLaws
 pub mod StripSums
 pub mod Encoding
 pub mod CodeStrips
-mod FactoredScript
 mod CodeExamples

@@ -108,3 +108,4 @@ pub record KeepsRun (st st' : State) : Type 0 where
   pub lost : st'.lost ≡ st.lost
   pub taken : st'.taken ≡ st.taken
   pub committed : st'.committed ≡ st.committed
+  pub spawned : st'.spawned ≡ st.spawned

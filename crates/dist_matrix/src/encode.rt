@@ -29,7 +29,21 @@ pub fn encode_group<K: Field>(
 ) -> Result<(), NoMemory>
     ensures events { OnOk result (round.new ≡ round.old ++ group_events (inverse K.MODULUS) (layout (setting_in site.now) line) line group) }
 {
-    let at = site.layout(line);
+    encode_group_on(round, site.layout(line), line, group)
+}
+
+/// Appends the same events for a matrix that lies by a layout.
+///
+/// For a caller that has the layout and no site at hand. It fails only where memory runs out.
+pub fn encode_group_on<K: Field>(
+    round: &mut Round<RankMem<K>>,
+    at: Layout,
+    line: u32,
+    group: u32,
+) -> Result<(), NoMemory>
+    requires laid_out { IsLayout (seen at) }
+    ensures events { OnOk result (round.new ≡ round.old ++ group_events (inverse K.MODULUS) (seen at) line group) }
+{
     for row in 0..at.grid.p {
         encode_row(round, at, line, group, row)?;
     }

@@ -11,10 +11,8 @@ mod encode;
 mod laws;
 mod site;
 mod strips;
-#[cfg(test)]
-mod tests;
 
-pub use encode::encode_group;
+pub use encode::{encode_group, encode_group_on};
 pub use laws::{events_make_code_strips, strips_make_matrix};
 pub use site::{ListShape, Site};
 pub use strips::{place, strip};

@@ -65,6 +65,15 @@ hold-same d width f g strips map same hold =
       words = λ row l c h hl hc. hold.words row l c h hl hc ∙ same (row_at d row l) c (row_at-lt d row l map h hl) hc;
     }
 
+-- other strips, equal one by one
+pub hold-strips : (d : RowMap) (width : ℕ) (f : ℕ → ℕ → ℕ) (strips strips' : ℕ → Matrix) → ((row : ℕ) → row < d.procs → strips' row ≡ strips row) → Hold d width f strips → Hold d width f strips'
+hold-strips d width f strips strips' same hold =
+    record {
+      rows = λ row h. ap (λ m. m.rows) (same row h) ∙ hold.rows row h;
+      columns = λ row h. ap cols (same row h) ∙ hold.columns row h;
+      words = λ row l c h hl hc. ap (λ m. entry m l c) (same row h) ∙ hold.words row l c h hl hc;
+    }
+
 swapped-first : (i j : ℕ) → swapped i j i ≡ j
 swapped-first i j = grind (arith, nat_tests)
 
@@ -214,16 +223,16 @@ gain-held d width p a l n y f lo hi left lp right rp strips strips' map done hol
     record {
       rows = λ row h. elim (cases_lt (rows_below d lo row) (rows_below d hi row)) [
         | inl some ↦ ap (λ m. m.rows) (done.made row h some) ∙ rows-with_part (strips row) (span d lo hi width row) (w row) ∙ hold.rows row h
-        | inr none ↦ ap (λ m. m.rows) (done.others row h none) ∙ hold.rows row h
+        | inr none ↦ done.other_rows row h none ∙ hold.rows row h
       ];
       columns = λ row h. elim (cases_lt (rows_below d lo row) (rows_below d hi row)) [
         | inl some ↦ ap cols (done.made row h some) ∙ cols-with_part (strips row) (span d lo hi width row) (w row) ∙ hold.columns row h
-        | inr none ↦ ap cols (done.others row h none) ∙ hold.columns row h
+        | inr none ↦ done.other_columns row h none ∙ hold.columns row h
       ];
       words = λ row r c h hl hc. elim (cases_lt (rows_below d lo row) (rows_below d hi row)) [
         | inl some ↦ some_rows row r c h hl hc some
         | inr none ↦
-            ap (λ m. entry m r c) (done.others row h none) ∙ hold.words row r c h hl hc
+            done.other_words row r c h none hl hc ∙ hold.words row r c h hl hc
             ∙ sym (in_rows-outside lo hi gain f (row_at d row r) c (elim (cases_lt r (rows_below d lo row)) [
               | inl before ↦ inl (place-before d row r lo map h before)
               | inr from ↦ inr (place-from d row r hi map h (omega arith))
@@ -379,6 +388,11 @@ upper_solved-reduced p inverse unit u f first n i c =
             | inr under ↦ in_rows-outside first (first + n) s f i c (inr under) ∙ sym (upper_reduced-under p inverse unit u first n (λ r. f r c) i under)
           ])
     ]
+
+-- the next exchange of a list of pivots, on words by row and column
+pub exchanged-next : (v : List ℕ) (first k : ℕ) (f : ℕ → ℕ → ℕ) → exchange (first + k) (pivot_row v (first + k)) (λ i c. exchanged v first k (λ r. f r c) i) ≡ (λ i c. exchanged v first (suc k) (λ r. f r c) i)
+unfolding came_from
+exchanged-next v first k f = refl
 
 -- one exchange more on strips
 pub exchanges-held : (d : RowMap) (width : ℕ) (v : List ℕ) (first k : ℕ) (f : ℕ → ℕ → ℕ) (strips strips' : ℕ → Matrix) → IsRowMap d → first + k < d.m → pivot_row v (first + k) < d.m → AreExchanged d width (first + k) (pivot_row v (first + k)) strips strips' → Hold d width (λ i c. exchanged v first k (λ r. f r c) i) strips → Hold d width (λ i c. exchanged v first (suc k) (λ r. f r c) i) strips'

@@ -92,10 +92,13 @@ pub record AreUpperSolved (d : RowMap) (width : ℕ) (p : ℕ) (inverse : ℕ �
   pub others : (row : ℕ) → row < d.procs → row ≢ row_owner d first → strips' row ≡ strips row
   pub triangle : (i k : ℕ) → i < n → k < n → part_entry block bp i k ≡ u (first + i) (first + k)
 
--- each strip gained, in its rows from lo to hi - 1, a times the product of a part with the words of l in these rows and of a part with the words y; a strip without such rows is as it was
+-- each strip gained, in its rows from lo to hi - 1, a times the product of a part with the words of l in these rows and of a part with the words y. A strip
+-- without such rows has its shape and its words still, be it written again or not
 pub record HaveGained (d : RowMap) (width : ℕ) (p a : ℕ) (l : ℕ → ℕ → ℕ) (n : ℕ) (y : ℕ → ℕ → ℕ) (lo hi : ℕ) (left : ℕ → Matrix) (lp : ℕ → Part) (right : ℕ → Matrix) (rp : ℕ → Part) (strips strips' : ℕ → Matrix) : Type 0 where
   pub made : (row : ℕ) → row < d.procs → rows_below d lo row < rows_below d hi row → strips' row ≡ with_product p (strips row) (span d lo hi width row) a (left row) (lp row) (right row) (rp row)
-  pub others : (row : ℕ) → row < d.procs → rows_below d hi row ≤ rows_below d lo row → strips' row ≡ strips row
+  pub other_rows : (row : ℕ) → row < d.procs → rows_below d hi row ≤ rows_below d lo row → (strips' row).rows ≡ (strips row).rows
+  pub other_columns : (row : ℕ) → row < d.procs → rows_below d hi row ≤ rows_below d lo row → cols (strips' row) ≡ cols (strips row)
+  pub other_words : (row l c : ℕ) → row < d.procs → rows_below d hi row ≤ rows_below d lo row → l < rows_below d d.m row → c < width → entry (strips' row) l c ≡ entry (strips row) l c
   pub inner : (row : ℕ) → row < d.procs → rows_below d lo row < rows_below d hi row → (lp row).c1 - (lp row).c0 ≡ n
   pub left_words : (row i k : ℕ) → row < d.procs → rows_below d lo row + i < rows_below d hi row → k < n → part_entry (left row) (lp row) i k ≡ l (row_at d row (rows_below d lo row + i)) k
   pub right_words : (row k c : ℕ) → row < d.procs → rows_below d lo row < rows_below d hi row → k < n → c < width → part_entry (right row) (rp row) k c ≡ y k c

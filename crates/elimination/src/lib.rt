@@ -13,6 +13,4 @@ pub mod code;
 pub mod panel;
 pub mod solve;
 pub mod strip;
-#[cfg(test)]
-mod tests;
 pub mod whole;

@@ -3,7 +3,7 @@ use Rattle.std.specs.Prelude.{◌≡◌, ℕ, ◌≤◌, if◌then◌else◌, na
 use Rattle.std.specs.declared.alloc.Global.{Global}
 use Rattle.io_edge.specs.declared.shelf.ShelfFault.{ShelfFault}
 use Rattle.io_edge.specs.declared.shelf.ShelfFault.TheVariants.{Failed, TooLong, NoMemory}
-use Rattle.io_edge.specs.declared.shelf.TheConstants.{FILE_LIMIT}
+use Rattle.io_edge.specs.Limits.{file_limit}
 use Rattle.io_edge.specs.Causes.{counted, Rose, is_planned}
 
 -- what a shelf that tells keeps: the bytes of each name that it has, the number of its reads so far, and the numbers of the reads that are to fail
@@ -15,7 +15,7 @@ pub record Held : Type 0 where
 -- the answer for a file that is there or not
 abbrev pub file_answer : Option (List ℕ) → Result (List ℕ) ShelfFault
 file_answer None = Err Failed
-file_answer (Some bytes) = if nat_lt FILE_LIMIT (length bytes) then Err TooLong else Ok bytes
+file_answer (Some bytes) = if nat_lt file_limit (length bytes) then Err TooLong else Ok bytes
 
 -- what the next read of this name answers, memory aside
 abbrev pub read_answer : Held → List ℕ → Result (List ℕ) ShelfFault

@@ -1,5 +1,6 @@
 //! The machine's own files, read whole. This shelf tells nothing of them.
 ghost use Rattle.std.specs.Prelude.{◌≡◌, ◌<◌, ◌≤◌, None, Err, IfOk, IfSome, vec_len, length};
+ghost use Rattle.io_edge.specs.Limits.{file_limit};
 ghost use Rattle.io_edge.specs.Host.{counts_of};
 
 use crate::counts::Counts;
@@ -23,10 +24,10 @@ pub struct HostShelf<'a, R> {
 
 // Reads to the end, or past the limit. Each turn takes at least one byte or is the last.
 fn read_whole<S: Read + Drop>(alloc: Global, mut source: S) -> Result<Vec<u8>, ShelfFault>
-    ensures short { IfOk result (λ v. vec_len v ≤ FILE_LIMIT) }
+    ensures short { IfOk result (λ v. vec_len v ≤ file_limit) }
     // of a source whose bytes are known
     ensures whole { IfOk result (λ v. IfSome (S.remaining source) (λ bytes. v.items ≡ bytes)) }
-    ensures long { result ≡ Err ShelfFault.TooLong → IfSome (S.remaining source) (λ bytes. FILE_LIMIT < length bytes) }
+    ensures long { result ≡ Err ShelfFault.TooLong → IfSome (S.remaining source) (λ bytes. file_limit < length bytes) }
 {
     let mut bytes = Vec::new(alloc);
     let mut chunk = [0u8; CHUNK];
@@ -43,7 +44,7 @@ fn read_whole<S: Read + Drop>(alloc: Global, mut source: S) -> Result<Vec<u8>, S
 }
 
 fn read_file<R: Files>(rt: &R, alloc: Global, name: &str) -> Result<Vec<u8>, ShelfFault>
-    ensures { IfOk result (λ v. vec_len v ≤ FILE_LIMIT) }
+    ensures { IfOk result (λ v. vec_len v ≤ file_limit) }
 {
     let file = fs::open(rt, name).map_err(|_| ShelfFault::Failed)?;
     read_whole(alloc, file)

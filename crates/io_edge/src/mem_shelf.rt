@@ -1,6 +1,7 @@
 //! A shelf in memory, for tests and for use as a library.
 ghost use Rattle.std.specs.Prelude.{◌≡◌, ◌≤◌, Some, OnOk, OnErr, IfOk, vec_len};
 ghost use Rattle.io_edge.specs.Counts.{counts_after};
+ghost use Rattle.io_edge.specs.Limits.{file_limit};
 ghost use Rattle.io_edge.specs.Shelf.{Answers, read_answer, ReadTold, ReadCause};
 ghost use Rattle.io_edge.specs.MemShelf.{state_of, empty, with_file, with_planned};
 
@@ -88,7 +89,7 @@ impl Shelf for MemShelf {
 
     fn read(&mut self, alloc: Global, name: &str) -> Result<Vec<u8>, ShelfFault>
         ensures bytes { ReadTold name.now (Some (state_of self.old).held) (Some (state_of self.new).held) result }
-        ensures short { IfOk result (λ v. vec_len v ≤ FILE_LIMIT) }
+        ensures short { IfOk result (λ v. vec_len v ≤ file_limit) }
         ensures cause { ReadCause (state_of self.old).counts.faults (state_of self.new).counts.faults (state_of self.old).counts.longs (state_of self.new).counts.longs result }
         ensures counts { (state_of self.new).counts ≡ counts_after result (state_of self.old).counts }
     {

@@ -1,5 +1,6 @@
 //! What a shelf is: a place from which whole files are read by name.
 ghost use Rattle.std.specs.Prelude.{ℕ, ◌≤◌, Option, IfOk, vec_len};
+ghost use Rattle.io_edge.specs.Limits.{file_limit};
 ghost use Rattle.io_edge.specs.Shelf.{Held, ReadTold, ReadCause};
 
 use std::alloc::{AllocError, Global};
@@ -49,7 +50,7 @@ pub trait Shelf {
     fn read(&mut self, alloc: Global, name: &str) -> Result<Vec<u8>, ShelfFault>
         // over a shelf that tells its files: the answer, and what stays as it was
         ensures bytes { ReadTold name.now (told self.old) (told self.new) result }
-        ensures short { IfOk result (λ v. vec_len v ≤ FILE_LIMIT) }
+        ensures short { IfOk result (λ v. vec_len v ≤ file_limit) }
 
         // over every shelf: the counts never fall, and a fault has raised its own
         ensures cause { ReadCause (faults self.old) (faults self.new) (longs self.old) (longs self.new) result };

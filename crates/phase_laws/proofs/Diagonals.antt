@@ -5,7 +5,7 @@ use Rattle.std.proofs.lemmas.Nat.{div-mul-add, mod-mul-add, mul-add-lt}
 use Rattle.std.proofs.lemmas.Bool.{cases_eq, cases_lt, and_parts, and_from, eqb-true, eq-eqb, ne_eqb}
 use Rattle.run_data.specs.Matrix.{entry}
 use Rattle.array_desc.specs.Descriptors.{IsDesc}
-use Rattle.array_desc.specs.declared.TheConstants.{MAX_SIZE}
+use Rattle.array_desc.specs.Limits.{size_limit}
 use Rattle.array_desc.specs.Maps.{owner, local}
 use Rattle.array_desc.proofs.MapLaws.{owner-lt}
 use Rattle.array_desc.proofs.GroupLaws.{block_in-group_of, group_of_column-lt}
@@ -134,7 +134,7 @@ least-number s line a mem n found desc hold hn least = by_zero (first_zero (diag
         same ∙ sym (ap info_number (least_zero-none (diagonal a) n none)))
     by_zero (zero_at i hi z before) =
         (let d = layout s line in
-        let big : d.desc.m ≤ MAX_SIZE = desc.rows in
+        let big : d.desc.m ≤ size_limit = desc.rows in
         let row = row_owner (rows_of d) i in
         let col = owner i d.desc.nb d.desc.csrc d.grid.q in
         let col_in : col < d.grid.q = owner-lt i d.desc.nb d.desc.csrc d.grid.q some_q in

@@ -6,7 +6,7 @@ use Rattle.run_data.specs.declared.matrix.Part.{Part}
 use Rattle.run_data.specs.Matrix.{cols, entry}
 use Rattle.run_data.specs.Parts.{part_entry, part_of, whole_part}
 use Rattle.run_data.proofs.Matrices.{rows-tabulate, cols-tabulate, entry-tabulate}
-use Rattle.local_blas.specs.Kernels.{with_scaled, with_eliminated}
+use Rattle.local_blas.specs.Kernels.{with_scaled, with_product, with_eliminated}
 use Rattle.array_desc.specs.Descriptors.{IsDesc}
 use Rattle.array_desc.specs.Maps.{global}
 use Rattle.blacs_grid.specs.Places.{rank_at}
@@ -22,20 +22,25 @@ use Rattle.rank_machine.specs.declared.kernel.Kernel.TheVariants as k
 use Rattle.rank_machine.specs.Setting.{Layout, Setting, layout, global_row, global_col}
 use Rattle.rank_machine.specs.Effect.{Memory, words_of, is_words, matrix_in, area_in, cut_out, piece_in, with_piece, reaches, made_by}
 use Rattle.elimination.specs.CodeLaw.{upper, lower}
-use Rattle.elimination.specs.Strips.{RowMap, rows_below, row_at, row_owner, row_place, Hold, AreExchanged, span, block_rows, AreSolved, AreUpperSolved, HaveGained, AreEliminated, HaveAdded, added_words, one_row}
+use Rattle.elimination.specs.Strips.{RowMap, rows_below, row_at, row_owner, row_place, Hold, AreExchanged, block_rows, AreSolved, AreUpperSolved, HaveGained, AreEliminated, HaveAdded, added_words, one_row}
 use Rattle.elimination.proofs.StripLaws.{exchanged-on_one, exchanged-on_two}
-use Rattle.phase_laws.specs.Columns.{rows_of, strips_in, cut_test}
+use Rattle.phase_laws.specs.Columns.{rows_of, strips_in, cut_test, AreUpdated}
 use Rattle.phase_laws.proofs.Columns.{row_map, row_on_rank}
 
 -- ---- kernels
 pub scale-made : (s : Setting) (d : Layout) (col : ℕ) (slot : Slot) (a : ℕ) (mem mem' : ℕ → Memory) → ((row : ℕ) → row < d.grid.p → mem' row slot ≡ Some (made_by s (rank_at d.grid row col) (mem row) (k.Scale (piece.Whole slot) a))) → (row : ℕ) → row < d.grid.p → strips_in mem' slot row ≡ with_scaled s.modulus (strips_in mem slot row) (whole_part (strips_in mem slot row)) a
 scale-made s d col slot a mem mem' made row h = ap words_of (made row h)
 
-pub update-made : (s : Setting) (d : Layout) (col width : ℕ) (slot : Slot) (a : ℕ) (l : ℕ → ℕ → ℕ) (n : ℕ) (y : ℕ → ℕ → ℕ) (lo hi : ℕ) (left right : ℕ → Piece) (mem mem' : ℕ → Memory) → ((row : ℕ) → row < d.grid.p → rows_below (rows_of d) lo row < rows_below (rows_of d) hi row → mem' row slot ≡ Some (made_by s (rank_at d.grid row col) (mem row) (k.MulAdd (piece.Part slot (span (rows_of d) lo hi width row)) a (left row) (right row)))) → ((row : ℕ) → row < d.grid.p → rows_below (rows_of d) hi row ≤ rows_below (rows_of d) lo row → mem' row slot ≡ mem row slot) → ((row : ℕ) → row < d.grid.p → rows_below (rows_of d) lo row < rows_below (rows_of d) hi row → (area_in (mem row) (left row)).c1 - (area_in (mem row) (left row)).c0 ≡ n) → ((row i q : ℕ) → row < d.grid.p → rows_below (rows_of d) lo row + i < rows_below (rows_of d) hi row → q < n → part_entry (matrix_in (mem row) (left row)) (area_in (mem row) (left row)) i q ≡ l (row_at (rows_of d) row (rows_below (rows_of d) lo row + i)) q) → ((row q c : ℕ) → row < d.grid.p → rows_below (rows_of d) lo row < rows_below (rows_of d) hi row → q < n → c < width → part_entry (matrix_in (mem row) (right row)) (area_in (mem row) (right row)) q c ≡ y q c) → HaveGained (rows_of d) width s.modulus a l n y lo hi (λ row. matrix_in (mem row) (left row)) (λ row. area_in (mem row) (left row)) (λ row. matrix_in (mem row) (right row)) (λ row. area_in (mem row) (right row)) (strips_in mem slot) (strips_in mem' slot)
-update-made s d col width slot a l n y lo hi left right mem mem' made others inner left_words right_words =
+pub update-made : (s : Setting) (d : Layout) (col width : ℕ) (slot : Slot) (a : ℕ) (l : ℕ → ℕ → ℕ) (n : ℕ) (y : ℕ → ℕ → ℕ) (lo hi : ℕ) (target left right : ℕ → Piece) (mem mem' : ℕ → Memory) → AreUpdated s d col width slot a lo hi target left right mem mem' → ((row : ℕ) → row < d.grid.p → rows_below (rows_of d) lo row < rows_below (rows_of d) hi row → (area_in (mem row) (left row)).c1 - (area_in (mem row) (left row)).c0 ≡ n) → ((row i q : ℕ) → row < d.grid.p → rows_below (rows_of d) lo row + i < rows_below (rows_of d) hi row → q < n → part_entry (matrix_in (mem row) (left row)) (area_in (mem row) (left row)) i q ≡ l (row_at (rows_of d) row (rows_below (rows_of d) lo row + i)) q) → ((row q c : ℕ) → row < d.grid.p → rows_below (rows_of d) lo row < rows_below (rows_of d) hi row → q < n → c < width → part_entry (matrix_in (mem row) (right row)) (area_in (mem row) (right row)) q c ≡ y q c) → HaveGained (rows_of d) width s.modulus a l n y lo hi (λ row. matrix_in (mem row) (left row)) (λ row. area_in (mem row) (left row)) (λ row. matrix_in (mem row) (right row)) (λ row. area_in (mem row) (right row)) (strips_in mem slot) (strips_in mem' slot)
+update-made s d col width slot a l n y lo hi target left right mem mem' done inner left_words right_words =
     record {
-      made = λ row h some. ap words_of (made row h some);
-      others = λ row h none. ap words_of (others row h none);
+      made = λ row h some.
+          ap words_of (done.made row h some)
+          ∙ ap (λ x. with_product s.modulus (words_of (mem row x)) (area_in (mem row) (target row)) a (matrix_in (mem row) (left row)) (area_in (mem row) (left row)) (matrix_in (mem row) (right row)) (area_in (mem row) (right row))) (done.in_slot row h some)
+          ∙ ap (λ at. with_product s.modulus (words_of (mem row slot)) at a (matrix_in (mem row) (left row)) (area_in (mem row) (left row)) (matrix_in (mem row) (right row)) (area_in (mem row) (right row))) (done.at_rows row h some);
+      other_rows = done.other_rows;
+      other_columns = done.other_columns;
+      other_words = done.other_words;
       inner = inner;
       left_words = left_words;
       right_words = right_words;
@@ -81,7 +86,7 @@ swap-made s d col width i j slot f mem mem' desc hi hj hold together made others
     exchanged-on_one (rows_of d) width i j f (strips_in mem slot) (strips_in mem' slot) (row_map d desc) hi hj hold together (ap words_of made) (λ row h other. ap words_of (others row h other))
 
 -- ---- messages
-words_are : (t : Option Tile) → is_words t ≡ true → t ≡ Some (Words (words_of t))
+pub words_are : (t : Option Tile) → is_words t ≡ true → t ≡ Some (Words (words_of t))
 words_are None e = absurd (false≢true e)
 words_are (Some (Words m)) e = refl
 words_are (Some (Index ns)) e = absurd (false≢true e)

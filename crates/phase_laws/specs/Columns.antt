@@ -1,21 +1,23 @@
 -- Slots of the machine as columns of words: what the ranks of a process column hold in a slot is the strips of a block column, and a column of
 -- these strips is a function of the global row.
-use Rattle.std.specs.Prelude.{◌≡◌, ℕ, ◌+◌, ◌*◌, ◌<◌, ◌≤◌, if◌then◌else◌, nat_lt, nat_le, Bool, true, false, IsTrue}
+use Rattle.std.specs.Prelude.{◌≡◌, ℕ, ◌+◌, ◌*◌, ◌<◌, ◌≤◌, Some, if◌then◌else◌, nat_lt, nat_le, Bool, true, false, IsTrue}
 use Rattle.cauchy_code.specs.Cauchy.{weight}
-use Rattle.run_data.specs.Matrix.{Matrix}
+use Rattle.run_data.specs.Matrix.{Matrix, cols, entry}
 use Rattle.blacs_grid.specs.Places.{rank_at}
 use Rattle.rank_machine.specs.declared.slot.SlotKind.{SlotKind}
 use Rattle.rank_machine.specs.declared.slot.SlotKind.TheVariants.{Data, Code, Low, Open}
 use Rattle.rank_machine.specs.declared.slot.Slot.{Slot}
+use Rattle.rank_machine.specs.declared.slot.Piece.{Piece}
 use Rattle.rank_machine.specs.declared.kernel.Cut.{Cut}
 use Rattle.rank_machine.specs.declared.kernel.Cut.TheVariants as cut
+use Rattle.rank_machine.specs.declared.kernel.Kernel.TheVariants as k
 use Rattle.rank_machine.specs.declared.mark.Mark.{Mark}
 use Rattle.rank_machine.specs.Setting.{Layout, Setting, group_count, block_at, global_col}
 use Rattle.rank_machine.specs.State.{State}
-use Rattle.rank_machine.specs.Effect.{Memory, words_of}
+use Rattle.rank_machine.specs.Effect.{Memory, words_of, slot_of, area_in, made_by}
 use Rattle.rank_machine.specs.CodeLaw.{slot_at, has_low, has_open, is_open_group, data_word, is_strip_of, IsPlace}
 use Rattle.elimination.specs.CodeLaw.{IsWeightedSum, Stage, stage_at, IsCoded}
-use Rattle.elimination.specs.Strips.{RowMap, held, group_column}
+use Rattle.elimination.specs.Strips.{RowMap, rows_below, span, held, group_column}
 
 -- how the rows of a matrix lie on the process rows of its grid
 abbrev pub rows_of : Layout → RowMap
@@ -93,3 +95,14 @@ pub record AreCoded (s : Setting) (st : State) (mark : Mark) (line : ℕ) (d : L
   pub coded : (group c j : ℕ) → group < group_count d → c < d.grid.f → j < d.desc.nb → has_low s mark line group ≡ true → IsGroupCoded s st mark line d group c j
   pub summed : (group c j : ℕ) → group < group_count d → c < d.grid.f → j < d.desc.nb → has_low s mark line group ≡ false → IsGroupSummed s st line d group c j
   pub opened_unmerged : (group : ℕ) → is_open_group s mark line d group ≡ true → has_low s mark line group ≡ true
+
+-- the ranks of a process column updated a slot: where a process row has rows from lo to hi - 1, `muladd` added a times the product of two pieces to a
+-- piece of the slot that is these rows, in all columns. Where it has none, the strip has its shape and its words still: nothing was done there, or
+-- `muladd` was run on no rows
+pub record AreUpdated (s : Setting) (d : Layout) (col width : ℕ) (slot : Slot) (a lo hi : ℕ) (target left right : ℕ → Piece) (mem mem' : ℕ → Memory) : Type 0 where
+  pub in_slot : (row : ℕ) → row < d.grid.p → rows_below (rows_of d) lo row < rows_below (rows_of d) hi row → slot_of (target row) ≡ slot
+  pub at_rows : (row : ℕ) → row < d.grid.p → rows_below (rows_of d) lo row < rows_below (rows_of d) hi row → area_in (mem row) (target row) ≡ span (rows_of d) lo hi width row
+  pub made : (row : ℕ) → row < d.grid.p → rows_below (rows_of d) lo row < rows_below (rows_of d) hi row → mem' row slot ≡ Some (made_by s (rank_at d.grid row col) (mem row) (k.MulAdd (target row) a (left row) (right row)))
+  pub other_rows : (row : ℕ) → row < d.grid.p → rows_below (rows_of d) hi row ≤ rows_below (rows_of d) lo row → (strips_in mem' slot row).rows ≡ (strips_in mem slot row).rows
+  pub other_columns : (row : ℕ) → row < d.grid.p → rows_below (rows_of d) hi row ≤ rows_below (rows_of d) lo row → cols (strips_in mem' slot row) ≡ cols (strips_in mem slot row)
+  pub other_words : (row l c : ℕ) → row < d.grid.p → rows_below (rows_of d) hi row ≤ rows_below (rows_of d) lo row → l < rows_below (rows_of d) d.desc.m row → c < width → entry (strips_in mem' slot row) l c ≡ entry (strips_in mem slot row) l c

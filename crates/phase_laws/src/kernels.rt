@@ -18,8 +18,8 @@ ghost use Rattle.rank_machine.specs.declared.kernel.Kernel.TheVariants as k;
 ghost use Rattle.rank_machine.specs.Setting.{Layout, Setting, layout, global_col};
 ghost use Rattle.rank_machine.specs.Effect.{Memory, words_of, is_words, matrix_in, area_in, piece_in, with_piece, reaches, made_by};
 ghost use Rattle.elimination.specs.CodeLaw.{upper, lower};
-ghost use Rattle.elimination.specs.Strips.{RowMap, rows_below, row_at, row_owner, row_place, Hold, AreExchanged, span, block_rows, AreSolved, AreUpperSolved, HaveGained, AreEliminated, HaveAdded, added_words, one_row};
-ghost use Rattle.phase_laws.specs.Columns.{rows_of, strips_in, cut_test};
+ghost use Rattle.elimination.specs.Strips.{RowMap, rows_below, row_at, row_owner, row_place, Hold, AreExchanged, block_rows, AreSolved, AreUpperSolved, HaveGained, AreEliminated, HaveAdded, added_words, one_row};
+ghost use Rattle.phase_laws.specs.Columns.{rows_of, strips_in, cut_test, AreUpdated};
 
 /// `scale` on each process row multiplies the strips of a slot.
 pub fn scale_multiplies_strips()
@@ -31,11 +31,11 @@ pub fn scale_multiplies_strips()
 {}
 
 /// `muladd` on the process rows that have rows in a range adds a multiple of a product there: what
-/// is asked of strips that gain a product.
+/// is asked of strips that gain a product. It may write a part of the strip or all of it, and may
+/// also be run on process rows that have no rows in the range.
 pub fn muladd_adds_products()
-    ensures { (s : Setting) (d : Layout) (col width : ℕ) (slot : Slot) (a : ℕ) (l : ℕ → ℕ → ℕ) (n : ℕ) (y : ℕ → ℕ → ℕ) (lo hi : ℕ) (left right : ℕ → Piece) (mem mem' : ℕ → Memory) →
-        ((row : ℕ) → row < d.grid.p → rows_below (rows_of d) lo row < rows_below (rows_of d) hi row → mem' row slot ≡ Some (made_by s (rank_at d.grid row col) (mem row) (k.MulAdd (piece.Part slot (span (rows_of d) lo hi width row)) a (left row) (right row)))) →
-        ((row : ℕ) → row < d.grid.p → rows_below (rows_of d) hi row ≤ rows_below (rows_of d) lo row → mem' row slot ≡ mem row slot) →
+    ensures { (s : Setting) (d : Layout) (col width : ℕ) (slot : Slot) (a : ℕ) (l : ℕ → ℕ → ℕ) (n : ℕ) (y : ℕ → ℕ → ℕ) (lo hi : ℕ) (target left right : ℕ → Piece) (mem mem' : ℕ → Memory) →
+        AreUpdated s d col width slot a lo hi target left right mem mem' →
         ((row : ℕ) → row < d.grid.p → rows_below (rows_of d) lo row < rows_below (rows_of d) hi row → (area_in (mem row) (left row)).c1 - (area_in (mem row) (left row)).c0 ≡ n) →
         ((row i q : ℕ) → row < d.grid.p → rows_below (rows_of d) lo row + i < rows_below (rows_of d) hi row → q < n → part_entry (matrix_in (mem row) (left row)) (area_in (mem row) (left row)) i q ≡ l (row_at (rows_of d) row (rows_below (rows_of d) lo row + i)) q) →
         ((row q c : ℕ) → row < d.grid.p → rows_below (rows_of d) lo row < rows_below (rows_of d) hi row → q < n → c < width → part_entry (matrix_in (mem row) (right row)) (area_in (mem row) (right row)) q c ≡ y q c) →

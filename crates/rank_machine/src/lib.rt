@@ -6,8 +6,6 @@ mod kernel;
 mod mark;
 mod record;
 mod slot;
-#[cfg(test)]
-mod tests;
 
 pub use kernel::{Cut, Kernel};
 pub use mark::Mark;

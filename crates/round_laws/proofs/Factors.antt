@@ -1,11 +1,9 @@
 -- Factors and paths that a line allows.
-use Rattle.std.proofs.Common.{◌≡◌, ◌≢◌, ◌+◌, ◌-◌, ◌*◌, ◌%◌, ◌<◌, ◌≤◌, ◌==◌, ◌&&◌, ◌||◌, ℕ, zero, suc, Bool, true, false, not, List, [], ◌∷◌, ◌++◌, refl, sym, ap, subst, ◌∙◌, inl, inr, ⊎_elim, IsTrue, arith}
-use Rattle.std.specs.Prelude.{if◌then◌else◌}
+use Rattle.std.proofs.Common.{◌≡◌, ◌≢◌, ◌+◌, ◌-◌, ◌%◌, ◌<◌, ◌≤◌, ◌==◌, ◌&&◌, ◌||◌, ℕ, zero, suc, Bool, true, false, not, refl, sym, ap, ◌∙◌, inl, inr, IsTrue, arith}
 use Rattle.std.proofs.Math.Nat.{mod-add-mod}
-use Rattle.std.proofs.lemmas.Bool.{cases_Bool, true≢false, and_parts, and_from, or_left, eqb-true, eq-eqb}
+use Rattle.std.proofs.lemmas.Bool.{and_from, or_left}
 use Rattle.std.proofs.lemmas.Bool.Decides.{eqb_tells}
 use Rattle.cauchy_code.specs.Cauchy.{weight}
-use Rattle.rank_run.specs.declared.round.Event.TheVariants.{Local, Move}
 use Rattle.blacs_comm.specs.Positions.{sender_of, place_of}
 use Rattle.blacs_comm.specs.Positions as positions
 use Rattle.blacs_comm.specs.Moves.{broadcast_moves}
@@ -17,10 +15,10 @@ use Rattle.blacs_grid.specs.declared.Scope.TheVariants.{Row, Column}
 use Rattle.blacs_grid.specs.Places.{width, row_of, col_of, rank_at, is_member, member}
 use Rattle.blacs_grid.proofs.PlaceLaws.{is_member-rank_at, row_of-rank_at, col_of-rank_at}
 use Rattle.rank_machine.specs.declared.slot.Piece.{Piece}
-use Rattle.rank_machine.specs.Setting.{Path, anywhere, forwards, backwards, members, Setting, some_below, grid_of_rank, job}
+use Rattle.rank_machine.specs.Setting.{Path, anywhere, Setting, some_below, grid_of_rank, job}
 use Rattle.rank_machine.specs.State.{State}
 use Rattle.rank_machine.specs.Effect.{current}
-use Rattle.rank_machine.specs.Legal.{is_among, is_weight, is_plain_factor, lost_columns, IsDecodingEntry, IsFactor, some_lost, is_step, is_along, may_go, is_path}
+use Rattle.rank_machine.specs.Legal.{is_among, is_weight, lost_columns, IsDecodingEntry, IsFactor, some_lost, is_step, is_along, may_go, is_path}
 use Rattle.round_laws.specs.Turns.{AreOnPath, IsGridOf}
 use Rattle.round_laws.specs.Paths.{path_of}
 use Rattle.round_laws.proofs.Laws.{path-append}

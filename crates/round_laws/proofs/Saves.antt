@@ -1,19 +1,19 @@
 -- Saves before a round: what is saved may be changed, and nothing else about what the ranks hold is.
-use Rattle.std.proofs.Common.{◌≡◌, ◌<◌, ◌==◌, ◌&&◌, ◌||◌, ℕ, Bool, true, false, Option, Some, None, is_some, List, [], ◌∷◌, map, refl, sym, ap, subst, ◌∙◌, ⊎_elim, IsTrue, All}
+use Rattle.std.proofs.Common.{◌≡◌, ◌==◌, ◌&&◌, ◌||◌, ℕ, Bool, true, false, None, is_some, List, [], ◌∷◌, refl, ap, ◌∙◌, ⊎_elim, All}
 use Rattle.std.specs.Prelude.{if◌then◌else◌}
 use Rattle.std.proofs.lemmas.Bool.{cases_Bool, and_from}
 use Rattle.std.proofs.lemmas.List.Elements.{All-nil, All-cons, All-head, All-tail}
 use Rattle.rank_machine.specs.declared.slot.Slot.{Slot}
 use Rattle.rank_machine.specs.declared.record.Rec.{Rec}
 use Rattle.rank_machine.specs.declared.record.Rec.TheVariants as r
-use Rattle.rank_machine.specs.Setting.{Setting, ranks}
+use Rattle.rank_machine.specs.Setting.{Setting}
 use Rattle.rank_machine.specs.State.{State, same_slot}
 use Rattle.rank_machine.specs.Effect.{is_live, after, replay}
 use Rattle.rank_machine.specs.declared.mark.Mark.{Mark}
 use Rattle.rank_machine.specs.declared.slot.SlotKind.TheVariants.{Work}
 use Rattle.rank_machine.specs.CodeLaw.{slot_at}
 use Rattle.rank_slots.proofs.CellLaws.{same_slot-refl}
-use Rattle.round_laws.specs.Holdings.{Holding, holding, may_put}
+use Rattle.round_laws.specs.Holdings.{holding, may_put}
 use Rattle.round_laws.specs.Turns.{IsQuiet}
 use Rattle.round_laws.proofs.Factors.{or_right, itself}
 

@@ -5,3 +5,7 @@ pub mod Going
 pub mod Shorts
 pub mod Healing
 pub mod Spawned
+pub mod Marks
+pub mod LawFrame
+pub mod CodeLaws
+pub mod Scripts

@@ -51,6 +51,10 @@ rest_from s rest now (x ∷ xs) = rest_from s (if is_commit x then after s now x
 abbrev pub rest_after : Setting → List Rec → State
 rest_after s journal = rest_from s (opened s) (opened s) journal
 
+-- the same state, but that so many ranks were spawned: what a recovery leads back to counts those that it spawned
+abbrev pub with_spawned : State → ℕ → State
+with_spawned st n = record st { spawned = n }
+
 -- as a commit or the opening leaves the machine: all ranks are live and none counts as lost, nothing is saved, fresh, on its way or taken, and the code law holds
 pub record IsRest (s : Setting) (st : State) : Type 0 where
   pub live : (rank : ℕ) → st.live rank ≡ nat_lt rank (ranks s)

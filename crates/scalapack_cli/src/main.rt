@@ -2,9 +2,6 @@
 //! status is the number of the answer.
 #![tactic(auto)]
 
-#[cfg(test)]
-mod tests;
-
 use io_edge::{HostShelf, HostSink};
 use scalapack_top::{journal_name, scalapack};
 use std::alloc::{AllocError, Global};

@@ -7,21 +7,22 @@ use Rattle.run_data.specs.Matrix.{Matrix, tabulate}
 use Rattle.run_data.specs.Script.{Numbered, commands_of}
 use Rattle.run_data.specs.declared.command.Command.{Command}
 use Rattle.run_data.specs.declared.command.Command.TheVariants as c
-use Rattle.script_text.specs.declared.fault.Refused.{Refused}
-use Rattle.script_text.specs.declared.told.Told.{Told}
-use Rattle.script_text.specs.declared.kinds.Kind.{Kind}
-use Rattle.script_text.specs.declared.kinds.Kind.TheVariants.{NewName, GridName, MatrixName, ListName, ThingName, Number, FileName, Letter}
-use Rattle.script_text.specs.declared.kinds.CommandWord.{CommandWord}
-use Rattle.script_text.specs.declared.rules.TheConstants.{MAX_LINES}
-use Rattle.script_text.specs.declared.bounds.TheConstants.{MAX_RECORDS}
-use Rattle.script_text.specs.Lines.{has_items}
-use Rattle.script_text.specs.Kinds.{command_word, kinds_of, takes_more, has_count}
-use Rattle.script_text.specs.Bounds.{bound}
-use Rattle.script_text.specs.Rules.{first_code, word_rules, words_code, more_rules, pgemm_line, ptrsm_line, pgetrf_line, pgetrs_line, pgemr2d_line, routine_rules, own_rules, rules}
-use Rattle.script_text.specs.Told.{told_by}
-use Rattle.script_text.specs.Commands.{command_of}
-use Rattle.script_text.specs.Script.{refused, command_code, form_code_of, form_code, rule_code, line_code, answer_by, line_answer, and_then, script_after, word_lines, bounded, script_of}
-use Rattle.script_text.specs.MatrixFile.{row_rules, by_code, too_few, refused_after, rows_of, number_in, matrix_or, matrix_of}
+use Rattle.script_words.specs.declared.fault.Refused.{Refused}
+use Rattle.script_rules.specs.declared.told.Told.{Told}
+use Rattle.script_words.specs.declared.kinds.Kind.{Kind}
+use Rattle.script_words.specs.declared.kinds.Kind.TheVariants.{NewName, GridName, MatrixName, ListName, ThingName, Number, FileName, Letter}
+use Rattle.script_words.specs.declared.kinds.CommandWord.{CommandWord}
+use Rattle.script_words.specs.Limits.{line_limit, record_limit}
+use Rattle.script_words.specs.Lines.{has_items}
+use Rattle.script_words.specs.Kinds.{command_word, kinds_of, takes_more, has_count}
+use Rattle.script_bounds.specs.Bounds.{bound}
+use Rattle.script_words.specs.Tables.{first_code}
+use Rattle.script_rules.specs.Rules.{word_rules, words_code, more_rules, pgemm_line, ptrsm_line, pgetrf_line, pgetrs_line, pgemr2d_line, routine_rules, own_rules, rules}
+use Rattle.script_rules.specs.Told.{told_by}
+use Rattle.script_words.specs.Commands.{command_of}
+use Rattle.script_text.specs.Script.{refused, command_code, form_code_of, form_code, rule_code, line_code, answer_by, line_answer, and_then, script_after, bounded, script_of}
+use Rattle.script_words.specs.Lines.{word_lines}
+use Rattle.script_words.specs.MatrixFile.{row_rules, by_code, too_few, refused_after, rows_of, number_in, matrix_or, matrix_of}
 
 -- a code, if there is one, is not 12
 abbrev is_other : Option ℤ → Bool
@@ -125,7 +126,7 @@ command_other script (Some w) others =
 
 form_other : (script : List (Option Command)) (words : List (List ℕ)) → is_other (form_code script words) ≡ true
 unfolding form_code
-form_other script words = or_other (first_code ((pos 11, nat_lt (length script) MAX_LINES) ∷ [])) _ (first_other ((pos 11, nat_lt (length script) MAX_LINES) ∷ []) refl) (of_words words)
+form_other script words = or_other (first_code ((pos 11, nat_lt (length script) line_limit) ∷ [])) _ (first_other ((pos 11, nat_lt (length script) line_limit) ∷ []) refl) (of_words words)
   where
     of_words : (words : List (List ℕ)) → is_other (form_code_of script words) ≡ true
     of_words [] = refl
@@ -163,7 +164,7 @@ lines_refused told script (words ∷ lines) r e =
 
 bound_refused : (script : List (Option Command)) (r : Refused) → bounded script ≡ Err r → is_other (Some r.code) ≡ true
 unfolding bounded
-bound_refused script r e = by_test (nat_le (bound (commands_of script)) MAX_RECORDS) e
+bound_refused script r e = by_test (nat_le (bound (commands_of script)) record_limit) e
   where
     by_test : (b : Bool) → cond b (Ok script) (Err (refused 0 (pos 7))) ≡ Err r → is_other (Some r.code) ≡ true
     by_test true e = absurd cc

@@ -1,4 +1,5 @@
 pub mod Codes
+pub mod OneRead
 pub mod Steps
 pub mod Files
 pub mod Answered

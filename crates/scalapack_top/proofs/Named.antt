@@ -14,10 +14,10 @@ use Rattle.run_data.specs.declared.command.Command.TheVariants as c
 use Rattle.run_data.specs.Script.{Numbered, commands_of, command_at, name_made, name_dropped, maker_after, maker_from, maker}
 use Rattle.run_data.specs.Script as names
 use Rattle.run_records.proofs.LineJobs.{Contains-head, Contains-later}
-use Rattle.script_text.specs.Names.{is_name_byte, is_name}
-use Rattle.script_text.specs.Rules.{command_on, maker_command, is_matrix_line, is_list_line}
-use Rattle.script_text.specs.Accepted.{KeepsRules}
-use Rattle.script_text.proofs.Limits.{print_kept, NameIsNew, matrix_name_kept, list_name_kept}
+use Rattle.script_words.specs.Names.{is_name_byte, is_name}
+use Rattle.script_rules.specs.Rules.{command_on, maker_command, is_matrix_line, is_list_line}
+use Rattle.script_bounds.specs.Accepted.{KeepsRules}
+use Rattle.script_bounds.proofs.Limits.{print_kept, NameIsNew, matrix_name_kept, list_name_kept}
 use Rattle.script_run.proofs.AcceptedCommands.{there-all}
 
 -- ---- a name is text

@@ -21,7 +21,7 @@ use Rattle.serial_model.specs.Serial.{Values, with_value, matrix_in, list_in, is
 use Rattle.serial_machine.specs.Values.{IsMatrix}
 use Rattle.serial_machine.specs.Ready.{IsShort, HasMatrix, CanPrint, AreReady, CanRun}
 use Rattle.serial_machine.specs.Ready as ready
-use Rattle.script_text.specs.Rules.{command_on, maker_command, is_matrix_line, is_list_line}
+use Rattle.script_rules.specs.Rules.{command_on, maker_command, is_matrix_line, is_list_line}
 use Rattle.run_records.specs.RunText.{LinesRise}
 use Rattle.run_records.proofs.Names.{commands-rise, IsLeft, all_left, next_left, maker-here}
 use Rattle.script_run.proofs.AcceptedCommands.{AreThere, there-all, there-first, there-later}

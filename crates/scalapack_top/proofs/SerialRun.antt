@@ -8,13 +8,13 @@ use Rattle.run_data.specs.declared.command.Command.TheVariants as c
 use Rattle.run_data.specs.Script.{Numbered, commands_of, command_at, maker}
 use Rattle.rank_machine.specs.Scripts.{Matrices}
 use Rattle.serial_machine.specs.Ready.{CanRun}
-use Rattle.script_text.specs.declared.layouts.Layout.{Layout}
-use Rattle.script_text.specs.declared.routines.TheConstants.{MAX_SCALAR}
-use Rattle.script_text.specs.Routines.{is_within}
-use Rattle.script_text.specs.Rules.{command_on, maker_command, is_matrix_line, is_list_line, layout_on, layout_made, layout_of, factored_made, factored}
-use Rattle.script_text.specs.Accepted.{KeepsRules}
-use Rattle.script_text.proofs.Limits.{HasSizes}
-use Rattle.script_text.proofs.Operands.{pgemm_operands, ptrsm_operands, pgetrf_operands, pgetrs_operands, pgetrs_list, pgemr2d_operands, pivots_kept}
+use Rattle.script_rules.specs.declared.layouts.Layout.{Layout}
+use Rattle.script_words.specs.Limits.{scalar_limit}
+use Rattle.script_rules.specs.Routines.{is_within}
+use Rattle.script_rules.specs.Rules.{command_on, maker_command, is_matrix_line, is_list_line, layout_on, layout_made, layout_of, factored_made, factored}
+use Rattle.script_bounds.specs.Accepted.{KeepsRules}
+use Rattle.script_bounds.proofs.Limits.{HasSizes}
+use Rattle.script_bounds.proofs.Operands.{pgemm_operands, ptrsm_operands, pgetrf_operands, pgetrs_operands, pgetrs_list, pgemr2d_operands, pivots_kept}
 use Rattle.scalapack_top.specs.declared.words.Machine.TheVariants as machine
 use Rattle.scalapack_top.specs.Read.{FileFits, IsReady}
 use Rattle.scalapack_top.proofs.Named.{matrix-named, list-named, print-matrix, print-named}
@@ -48,8 +48,8 @@ shape_of : (ns : List Numbered) (line : ℕ) (name : List ℕ) → HasSizes (lay
 shape_of ns line name sizes = shape_made ns (maker ns line name) (maker_command ns line name) sizes.some_rows
 
 -- ---- tests
-word_below : (n : ℕ) → nat_le n MAX_SCALAR ≡ true → n < 65537
-word_below n h = (let le : n ≤ 65536 = leb-true n MAX_SCALAR h in omega (arith, le))
+word_below : (n : ℕ) → nat_le n scalar_limit ≡ true → n < 65537
+word_below n h = (let le : n ≤ 65536 = leb-true n scalar_limit h in omega (arith, le))
 
 -- a window within a size ends there
 within : (first count size : ℕ) → is_within first count size ≡ true → (0 < first) × (first - 1 + count ≤ size)

@@ -1,10 +1,12 @@
 -- The causes of the answers that come from outside, and what the steps of the work answer.
-use Rattle.std.specs.Prelude.{◌≡◌, ◌≢◌, ℕ, ◌≤◌, Option, Result, Ok, Err, MatchOption, ⊤, IfOk, IfErr, pos}
+use Rattle.std.specs.Prelude.{◌≡◌, ◌≢◌, ℕ, ◌≤◌, List, Option, Result, Ok, Err, MatchOption, ⊤, IfErr, pos}
 use Rattle.std.specs.Option.{option_map}
 use Rattle.io_edge.specs.Causes.{Rose}
-use Rattle.io_edge.specs.Shelf.{Held}
+use Rattle.io_edge.specs.declared.shelf.ShelfFault.{ShelfFault}
+use Rattle.io_edge.specs.Shelf.{Held, read_answer}
 use Rattle.scalapack_top.specs.declared.status.Status.{Status}
 use Rattle.scalapack_top.specs.declared.status.Status.TheVariants as status
+use Rattle.scalapack_top.specs.Readings.{after_read}
 
 -- the status is what is due, unless memory ran out
 abbrev pub FailsAs : {Y : Type 0} → Status → Result Y Status → Type 0
@@ -47,11 +49,13 @@ IsOfText status.Usage = ⊥
 IsOfText status.WriteFault = ⊥
 IsOfText (status.ReadFault file) = ⊥
 
--- A step of the reading: its answer is what is due over a shelf that tells, and it leaves the shelf as if so many reads were made;
--- the shelf's counts don't fall, and a fault has raised its own.
-pub record IsStep {X Y : Type 0} (view : X → Y) (due : Held → Result Y Status) (later : Held → Held) (told told' : Option Held) (faults faults' longs longs' : ℕ) (result : Result X Status) : Type 0 where
-  pub comes : MatchOption told ⊤ (λ held. Comes view result (due held))
-  pub leaves : IfOk result (λ x. told' ≡ option_map later told)
+-- The read of a file of this name, and what is made of it: the answer is what is due by what the shelf answered, which is what it
+-- tells where it tells its files; the read was counted, the counts of faults don't fall, and a fault has raised its own.
+pub record IsStep {X Y : Type 0} (view : X → Y) (name : List ℕ) (due : Result (List ℕ) ShelfFault → Result Y Status) (told told' : Option Held) (faults faults' longs longs' : ℕ) (result : Result X Status) : Type 0 where
+  pub answer : Result (List ℕ) ShelfFault
+  pub is_told : MatchOption told ⊤ (λ held. read_answer held name ≡ answer)
+  pub comes : Comes view result (due answer)
+  pub leaves : told' ≡ option_map after_read told
   pub failure : IfErr result IsFailure
   pub faults_stay : faults ≤ faults'
   pub longs_stay : longs ≤ longs'

@@ -1,5 +1,5 @@
 -- What the top call promises: its table of answers.
-use Rattle.std.specs.Prelude.{◌≡◌, ◌≢◌, ℕ, ◌≤◌, List, [], Option, None, Ok, Err, MatchOption, ⊤}
+use Rattle.std.specs.Prelude.{◌≡◌, ◌≢◌, ℕ, ◌≤◌, List, [], Option, None, Ok, Err}
 use Rattle.io_edge.specs.Shelf.{Held}
 use Rattle.run_data.specs.Script.{commands_of}
 use Rattle.rank_machine.specs.Scripts.{file_of}
@@ -9,6 +9,7 @@ use Rattle.scalapack_top.specs.declared.status.Status.TheVariants as status
 use Rattle.scalapack_top.specs.declared.words.Machine.{Machine}
 use Rattle.scalapack_top.specs.declared.words.Machine.TheVariants as machine
 use Rattle.scalapack_top.specs.Words.{script_name}
+use Rattle.scalapack_top.specs.Readings.{Readings, AreOf}
 use Rattle.scalapack_top.specs.Input.{Input, input_of}
 use Rattle.scalapack_top.specs.Status.{error_text}
 use Rattle.scalapack_top.specs.Causes.{IsCaused}
@@ -35,20 +36,24 @@ abbrev pub IsDoneBy : Machine → Input → Output → Type 0
 IsDoneBy machine.Ranks input output = IsDone input output
 IsDoneBy machine.Serial input output = IsDoneSerially input output
 
--- What an answer says, for what runs the script, the words and a shelf that tells its files or not, and what is to be written then.
-abbrev pub IsAnswer : Machine → List (List ℕ) → Option Held → Status → Output → Type 0
--- a whole run of the input that the words and the files give
-IsAnswer m words told status.Done output = (script_name words ≢ None) × ((input : Input) × MatchOption told ⊤ (λ held. input_of words held ≡ Ok input) × IsDoneBy m input output)
+-- What an answer says, for what runs the script, the words and what the reads answer, and what is to be written then.
+abbrev pub IsAnswer : Machine → List (List ℕ) → Readings → Status → Output → Type 0
+-- a whole run of the input that the words and the files that were read give
+IsAnswer m words readings status.Done output = (script_name words ≢ None) × ((input : Input) × (input_of words readings ≡ Ok input) × IsDoneBy m input output)
 -- the words are of no form
-IsAnswer m words told status.Usage output = (script_name words ≡ None) × IsEnd status.Usage output
--- the files give this fault, or this refusal, first
-IsAnswer m words told (status.ReadFault file) output = (script_name words ≢ None) × MatchOption told ⊤ (λ held. input_of words held ≡ Err (status.ReadFault file)) × IsEnd (status.ReadFault file) output
-IsAnswer m words told (status.Refused file line code) output =
-    (script_name words ≢ None) × MatchOption told ⊤ (λ held. input_of words held ≡ Err (status.Refused file line code)) × IsEnd (status.Refused file line code) output
+IsAnswer m words readings status.Usage output = (script_name words ≡ None) × IsEnd status.Usage output
+-- the files that were read give this fault, or this refusal, first
+IsAnswer m words readings (status.ReadFault file) output = (script_name words ≢ None) × (input_of words readings ≡ Err (status.ReadFault file)) × IsEnd (status.ReadFault file) output
+IsAnswer m words readings (status.Refused file line code) output =
+    (script_name words ≢ None) × (input_of words readings ≡ Err (status.Refused file line code)) × IsEnd (status.Refused file line code) output
 -- free, but not for words of no form
-IsAnswer m words told status.NoMemory output = (script_name words ≢ None) × IsEnd status.NoMemory output
+IsAnswer m words readings status.NoMemory output = (script_name words ≢ None) × IsEnd status.NoMemory output
 -- only the writes can answer this
-IsAnswer m words told status.WriteFault output = ⊥
+IsAnswer m words readings status.WriteFault output = ⊥
+
+-- an answer by what the reads answered, which is what the shelf tells where it tells its files
+abbrev pub IsAnswered : Machine → List (List ℕ) → Option Held → Status → Output → Type 0
+IsAnswered m words told answer output = (readings : Readings) × AreOf told readings × IsAnswer m words readings answer output
 
 -- what the work did to the shelf: its counts never fall, and a fault has raised its own
 pub record HasCause (faults faults' longs longs' : ℕ) (answer : Status) : Type 0 where

@@ -1,24 +1,23 @@
--- What the work comes to over a shelf that tells its files: the input that is run, or the first fault or refusal.
+-- What the work comes to by what the reads answer: the input that is run, or the first fault or refusal.
 use Rattle.std.specs.Prelude.{ℕ, List, [], ◌∷◌, Option, Some, None, Result, Ok, Err, pos}
 use Rattle.std.specs.FinMap as map
 use Rattle.io_edge.specs.declared.shelf.ShelfFault.{ShelfFault}
 use Rattle.io_edge.specs.declared.shelf.ShelfFault.TheVariants as shelf
-use Rattle.io_edge.specs.Causes.{counted}
-use Rattle.io_edge.specs.Shelf.{Held, read_answer}
 use Rattle.run_data.specs.Matrix.{Matrix}
 use Rattle.run_data.specs.declared.command.Command.{Command}
 use Rattle.run_data.specs.declared.command.Command.TheVariants as c
 use Rattle.run_data.specs.Script.{Numbered, commands_of}
 use Rattle.rank_machine.specs.Scripts.{Matrices}
-use Rattle.script_text.specs.declared.fault.Refused.{Refused}
+use Rattle.script_words.specs.declared.fault.Refused.{Refused}
 use Rattle.script_text.specs.Script.{script_of}
-use Rattle.script_text.specs.MatrixFile.{matrix_of}
-use Rattle.script_text.specs.Runs.{first_unrunnable}
+use Rattle.script_words.specs.MatrixFile.{matrix_of}
+use Rattle.script_rules.specs.Runs.{first_unrunnable}
 use Rattle.scalapack_top.specs.declared.status.Status.{Status}
 use Rattle.scalapack_top.specs.declared.status.Status.TheVariants as status
 use Rattle.scalapack_top.specs.declared.words.Machine.{Machine}
 use Rattle.scalapack_top.specs.declared.words.Machine.TheVariants as machine
 use Rattle.scalapack_top.specs.Words.{machine_of, script_name}
+use Rattle.scalapack_top.specs.Readings.{Readings, later}
 
 -- the first status that ends the work ends the whole
 infixl 10 ◌>>=◌
@@ -47,10 +46,6 @@ abbrev pub of_text : {X : Type 0} → Result X Refused → Result X Status
 of_text (Ok x) = Ok x
 of_text (Err r) = Err (status.Refused r.file r.line r.code)
 
--- a shelf after one more read
-abbrev pub after_read : Held → Held
-after_read held = record held { calls = counted held.calls }
-
 -- a script, unless a line of it is refused
 abbrev pub unless_line : Option ℕ → List (Option Command) → Result (List (Option Command)) Status
 unless_line None script = Ok script
@@ -65,28 +60,28 @@ runnable_by machine.Serial script = Ok script
 abbrev pub script_in : Machine → List ℕ → Result (List (Option Command)) Status
 script_in m bytes = of_text (script_of bytes) >>= λ script. runnable_by m script
 
--- the script of a name, for what is to run it
-abbrev pub script_from : Machine → List ℕ → Held → Result (List (Option Command)) Status
-script_from m name held = of_read 0 (read_answer held name) >>= λ bytes. script_in m bytes
+-- the script that a read gives, for what is to run it
+abbrev pub script_from : Machine → Result (List ℕ) ShelfFault → Result (List (Option Command)) Status
+script_from m answer = of_read 0 answer >>= λ bytes. script_in m bytes
 
--- the matrix of m rows and n columns of a file, for a matrix line
-abbrev pub matrix_from : List ℕ → ℕ → ℕ → ℕ → Held → Result Matrix Status
-matrix_from file line m n held = of_read line (read_answer held file) >>= λ bytes. of_text (matrix_of bytes line m n)
+-- the matrix of m rows and n columns that a read gives, for a matrix line
+abbrev pub matrix_from : ℕ → ℕ → ℕ → Result (List ℕ) ShelfFault → Result Matrix Status
+matrix_from line m n answer = of_read line answer >>= λ bytes. of_text (matrix_of bytes line m n)
 
 -- the file of a command's line is read, and then the rest goes on
-abbrev pub file_then : ℕ → Command → Held → Matrices → (Held → Matrices → Result Matrices Status) → Result Matrices Status
-file_then line (c.Matrix name grid m n mb nb rsrc csrc file) held files rest = matrix_from file line m n held >>= λ matrix. rest (after_read held) (map.insert files line matrix)
-file_then line _ held files rest = rest held files
+abbrev pub file_then : ℕ → Command → Readings → Matrices → (Readings → Matrices → Result Matrices Status) → Result Matrices Status
+file_then line (c.Matrix name grid m n mb nb rsrc csrc file) readings files rest = matrix_from line m n (readings 0 file) >>= λ matrix. rest (later readings) (map.insert files line matrix)
+file_then line _ readings files rest = rest readings files
 
 -- the matrix files of commands, in their order, beside those that are there
-abbrev pub files_from : List Numbered → Held → Matrices → Result Matrices Status
-files_from [] held files = Ok files
-files_from (n ∷ ns) held files = file_then n.line n.command held files (λ h m. files_from ns h m)
+abbrev pub files_from : List Numbered → Readings → Matrices → Result Matrices Status
+files_from [] readings files = Ok files
+files_from (n ∷ ns) readings files = file_then n.line n.command readings files (λ r m. files_from ns r m)
 
 -- the input of a script of this name, for what is to run it
-unfoldable pub input_from : Machine → List ℕ → Held → Result Input Status
-input_from m name held = script_from m name held >>= λ script. files_from (commands_of script) (after_read held) map.empty >>= λ files. Ok (record { script = script; files = files })
+unfoldable pub input_from : Machine → List ℕ → Readings → Result Input Status
+input_from m name readings = script_from m (readings 0 name) >>= λ script. files_from (commands_of script) (later readings) map.empty >>= λ files. Ok (record { script = script; files = files })
 
 -- the input that the words ask for
-abbrev pub input_of : List (List ℕ) → Held → Result Input Status
-input_of words held = of_words (script_name words) >>= λ name. input_from (machine_of words) name held
+abbrev pub input_of : List (List ℕ) → Readings → Result Input Status
+input_of words readings = of_words (script_name words) >>= λ name. input_from (machine_of words) name readings

@@ -1,6 +1,8 @@
 pub mod Words
 pub mod Status
+pub mod Readings
 pub mod Input
+pub mod Reads
 pub mod Causes
 pub mod Writes
 pub mod Run

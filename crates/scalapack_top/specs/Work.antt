@@ -1,10 +1,18 @@
 -- What the work hands to the writes.
-use Rattle.std.specs.Prelude.{ℕ, List}
+use Rattle.std.specs.Prelude.{◌≡◌, ℕ, List, [], Option, Ok}
+use Rattle.io_edge.specs.Shelf.{Held}
+use Rattle.script_run.specs.declared.running.Ran.{Ran}
 use Rattle.scalapack_top.specs.declared.status.Status.{Status}
 use Rattle.scalapack_top.specs.declared.status.Status.TheVariants as status
 use Rattle.scalapack_top.specs.declared.call.Work.{Work}
+use Rattle.scalapack_top.specs.declared.words.Machine.{Machine}
 use Rattle.scalapack_top.specs.Writes.{Output}
 use Rattle.scalapack_top.specs.Status.{error_text}
+use Rattle.scalapack_top.specs.Readings.{Readings, AreOf}
+use Rattle.scalapack_top.specs.Input.{Input, input_from}
+use Rattle.scalapack_top.specs.Reads.{names_read, WasRead}
+use Rattle.scalapack_top.specs.Causes.{FailsAs}
+use Rattle.scalapack_top.specs.Headline.{IsDoneBy}
 
 -- the text on err: two are fixed, since there may be no memory for them
 abbrev pub error_of : Status → List ℕ → List ℕ
@@ -17,3 +25,15 @@ error_of (status.Refused file line code) made = made
 
 abbrev pub output_of : Work → Output
 output_of w = record { out = w.out.items; err = error_of w.answer w.made.items; journal = w.journal.items }
+
+-- the input of a script of this name, by what the reads answered, was run by this machine
+abbrev pub IsRanBy : Machine → List ℕ → Option Held → Ran → Type 0
+IsRanBy m name told ran = (readings : Readings) × AreOf told readings × ((input : Input) × (input_from m name readings ≡ Ok input) × IsDoneBy m input (record { out = ran.out.items; err = []; journal = ran.journal.items }))
+
+-- the work for a script of this name failed so, by what the reads answered
+abbrev pub HasFailed : Machine → List ℕ → Option Held → Status → Type 0
+HasFailed m name told e = (readings : Readings) × AreOf told readings × FailsAs e (input_from m name readings)
+
+-- the names that are due for a script of this name were read
+abbrev pub HasReadFor : Machine → List ℕ → Option Held → Option Held → Status → Type 0
+HasReadFor m name told told' answer = (readings : Readings) × AreOf told readings × WasRead answer (names_read m name readings) told told'

@@ -1,13 +1,14 @@
 //! The top call.
 ghost use Rattle.scalapack_top.specs.declared.status.Status.{Status};
-ghost use Rattle.std.specs.Prelude.{◌≡◌, ◌≤◌, ◌⊎◌, ◌++◌, Bool, true, false, List, [], Ok, MatchOption, ⊤, IfOk, IfErr, OnOk, codes, decimal};
-ghost use Rattle.scalapack_top.specs.Words.{texts, runs_serially, machine_of};
+ghost use Rattle.std.specs.Prelude.{◌≡◌, ◌≤◌, ◌⊎◌, ◌++◌, Bool, true, false, [], None, IfOk, IfErr, OnOk, codes, decimal};
+ghost use Rattle.scalapack_top.specs.Words.{texts, runs_serially, machine_of, script_name};
+ghost use Rattle.scalapack_top.specs.Reads.{HasRead};
+ghost use Rattle.scalapack_top.specs.Read.{status_of};
 ghost use Rattle.scalapack_top.specs.Writes.{Output, AllPut, written};
 ghost use Rattle.scalapack_top.specs.Status.{error_text};
-ghost use Rattle.scalapack_top.specs.Input.{Input, input_from};
-ghost use Rattle.scalapack_top.specs.Causes.{FailsAs, IsFailure, IsCaused};
-ghost use Rattle.scalapack_top.specs.Headline.{IsAnswer, IsDoneBy, HasCause};
-ghost use Rattle.scalapack_top.specs.Work.{error_of, output_of};
+ghost use Rattle.scalapack_top.specs.Causes.{IsFailure, IsCaused};
+ghost use Rattle.scalapack_top.specs.Headline.{IsAnswered, HasCause};
+ghost use Rattle.scalapack_top.specs.Work.{error_of, output_of, IsRanBy, HasFailed, HasReadFor};
 
 use crate::input::read_input;
 use crate::run::run;
@@ -97,9 +98,10 @@ fn run_named<F: Shelf>(
     shelf: &mut F,
     name: &str,
 ) -> Result<Ran, Status>
-    ensures ran { IfOk result (λ r. (input : Input) × MatchOption (F.told shelf.old) ⊤ (λ held. input_from machine name.now held ≡ Ok input) × IsDoneBy machine input (record { out = r.out.items; err = []; journal = r.journal.items })) }
+    ensures ran { IfOk result (IsRanBy machine name.now (F.told shelf.old)) }
     ensures failure { IfErr result IsFailure }
-    ensures failed { IfErr result (λ e. MatchOption (F.told shelf.old) ⊤ (λ held. FailsAs e (input_from machine name.now held))) }
+    ensures failed { IfErr result (HasFailed machine name.now (F.told shelf.old)) }
+    ensures read { HasReadFor machine name.now (F.told shelf.old) (F.told shelf.new) (status_of result) }
     ensures faults { F.faults shelf.old ≤ F.faults shelf.new }
     ensures longs { F.longs shelf.old ≤ F.longs shelf.new }
     ensures caused { IfErr result (IsCaused (F.faults shelf.old) (F.faults shelf.new) (F.longs shelf.old) (F.longs shelf.new)) }
@@ -128,7 +130,9 @@ fn usage(alloc: Global) -> Work
 
 // What the work answers, and what it makes.
 fn answer_words<F: Shelf>(alloc: Global, words: &[String], shelf: &mut F) -> Work
-    ensures answer { IsAnswer (machine_of (texts words.now)) (texts words.now) (F.told shelf.old) result.answer (output_of result) }
+    ensures answer { IsAnswered (machine_of (texts words.now)) (texts words.now) (F.told shelf.old) result.answer (output_of result) }
+    ensures read { HasRead (texts words.now) (F.told shelf.old) (F.told shelf.new) result.answer }
+    ensures untouched { script_name (texts words.now) ≡ None → shelf.new ≡ shelf.old }
     ensures cause { HasCause (F.faults shelf.old) (F.faults shelf.new) (F.longs shelf.old) (F.longs shelf.new) result.answer }
 {
     let Some(places) = places_of(words) else {
@@ -180,16 +184,22 @@ pub fn scalapack<F: Shelf, O: Sink, E: Sink, J: Sink>(
 ) -> Status
     // For all words but those that ask for the serial machine.
     ensures ranks { runs_serially (texts words.now) ≡ false → (answer : Status) × (output : Output) × (ok : Bool)
-        × IsAnswer Machine.Ranks (texts words.now) (F.told shelf.old) answer output
+        × IsAnswered Machine.Ranks (texts words.now) (F.told shelf.old) answer output
         × HasCause (F.faults shelf.old) (F.faults shelf.new) (F.longs shelf.old) (F.longs shelf.new) answer
         × AllPut O.told O.faults E.told E.faults J.told J.faults out.old out.new err.old err.new journal.old journal.new output ok
         × (result ≡ written answer ok) }
 
     ensures serial { runs_serially (texts words.now) ≡ true → (answer : Status) × (output : Output) × (ok : Bool)
-        × IsAnswer Machine.Serial (texts words.now) (F.told shelf.old) answer output
+        × IsAnswered Machine.Serial (texts words.now) (F.told shelf.old) answer output
         × HasCause (F.faults shelf.old) (F.faults shelf.new) (F.longs shelf.old) (F.longs shelf.new) answer
         × AllPut O.told O.faults E.told E.faults J.told J.faults out.old out.new err.old err.new journal.old journal.new output ok
         × (result ≡ written answer ok) }
+
+    // The files that were read: the script's and then those of its matrix lines, up to the first that ends the work.
+    ensures reads { HasRead (texts words.now) (F.told shelf.old) (F.told shelf.new) result }
+
+    // For words of no form the shelf isn't asked.
+    ensures untouched { script_name (texts words.now) ≡ None → shelf.new ≡ shelf.old }
 {
     let work = answer_words(alloc, words, shelf);
     let ok = write(

@@ -1,9 +1,10 @@
 //! Reading the script and its matrix files.
 ghost use Rattle.std.specs.Prelude.{IfOk};
-ghost use Rattle.script_text.specs.Accepted.{IsAccepted};
-ghost use Rattle.scalapack_top.specs.Input.{after_read, input_from};
+ghost use Rattle.script_bounds.specs.Accepted.{IsAccepted};
+ghost use Rattle.scalapack_top.specs.Input.{input_from};
+ghost use Rattle.scalapack_top.specs.Reads.{names_read};
 ghost use Rattle.scalapack_top.specs.Causes.{IsStep};
-ghost use Rattle.scalapack_top.specs.Read.{file_due, line_due, after_line, files_read, input_read, IsPart, IsPut, IsAdded, NamesText, HasFiles, IsReady};
+ghost use Rattle.scalapack_top.specs.Read.{file_due, IsLine, files_read, files_names, input_read, IsPart, IsPut, IsAdded, NamesText, HasFiles, IsReady};
 
 use crate::reading::{read_matrix, read_script};
 use crate::status::Status;
@@ -29,7 +30,7 @@ fn add_matrix<F: Shelf>(
     n: u32,
     files: &mut Files,
 ) -> Result<(), Status>
-    ensures read { IsStep (λ u. files.new) (file_due name.now line m n files.old) after_read (F.told shelf.old) (F.told shelf.new) (F.faults shelf.old) (F.faults shelf.new) (F.longs shelf.old) (F.longs shelf.new) result }
+    ensures read { IsStep (λ u. files.new) name.now (file_due line m n files.old) (F.told shelf.old) (F.told shelf.new) (F.faults shelf.old) (F.faults shelf.new) (F.longs shelf.old) (F.longs shelf.new) result }
     ensures put { IfOk result (λ u. IsPut m n line files.old files.new) }
 {
     let matrix = match read_matrix(alloc, shelf, name, line, m, n) {
@@ -51,7 +52,7 @@ fn add_file<F: Shelf>(
     files: &mut Files,
 ) -> Result<(), Status>
     requires { NamesText command.now }
-    ensures read { IsStep (λ u. files.new) (line_due line command.now files.old) (after_line command.now) (F.told shelf.old) (F.told shelf.new) (F.faults shelf.old) (F.faults shelf.new) (F.longs shelf.old) (F.longs shelf.new) result }
+    ensures read { IsLine line command.now files.old files.new (F.told shelf.old) (F.told shelf.new) (F.faults shelf.old) (F.faults shelf.new) (F.longs shelf.old) (F.longs shelf.new) result }
     ensures added { IfOk result (λ u. IsAdded line command.now files.old files.new) }
 {
     match command {
@@ -66,7 +67,7 @@ fn add_file<F: Shelf>(
 // The files of a script, in the order of its lines.
 fn files_of<F: Shelf>(alloc: Global, shelf: &mut F, script: &Script) -> Result<Files, Status>
     requires { IsAccepted script.now }
-    ensures read { IsPart (λ f. f) (files_read script.now) (F.told shelf.old) (F.faults shelf.old) (F.faults shelf.new) (F.longs shelf.old) (F.longs shelf.new) result }
+    ensures read { IsPart (λ f. f) (files_read script.now) (files_names script.now) (F.told shelf.old) (F.told shelf.new) (F.faults shelf.old) (F.faults shelf.new) (F.longs shelf.old) (F.longs shelf.new) result }
     ensures files { IfOk result (λ f. HasFiles script.now f) }
 {
     let lines = script.as_slice();
@@ -89,7 +90,7 @@ pub fn read_input<F: Shelf>(
     shelf: &mut F,
     name: &str,
 ) -> Result<Prepared, Status>
-    ensures read { IsPart input_read (input_from machine name.now) (F.told shelf.old) (F.faults shelf.old) (F.faults shelf.new) (F.longs shelf.old) (F.longs shelf.new) result }
+    ensures read { IsPart input_read (input_from machine name.now) (names_read machine name.now) (F.told shelf.old) (F.told shelf.new) (F.faults shelf.old) (F.faults shelf.new) (F.longs shelf.old) (F.longs shelf.new) result }
     ensures ready { IfOk result (λ p. IsReady machine p.script p.files) }
 {
     let script = match read_script(alloc, machine, shelf, name) {

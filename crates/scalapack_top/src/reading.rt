@@ -1,13 +1,12 @@
 //! Reading one file from the shelf: the script, or the matrix of a line.
 ghost use Rattle.scalapack_top.specs.declared.status.Status.{Status};
 ghost use Rattle.std.specs.Prelude.{◌≡◌, ◌≤◌, length, IfOk, IfErr};
-ghost use Rattle.io_edge.specs.Shelf.{read_answer};
-ghost use Rattle.script_text.specs.Accepted.{IsAccepted};
+ghost use Rattle.script_bounds.specs.Accepted.{IsAccepted};
 ghost use Rattle.script_text.specs.Script.{script_of};
-ghost use Rattle.script_text.specs.MatrixFile.{matrix_of, HasResidues};
-ghost use Rattle.scalapack_top.specs.Input.{of_read, of_text, after_read, runnable_by, script_in, script_from, matrix_from};
+ghost use Rattle.script_words.specs.MatrixFile.{matrix_of, HasResidues};
+ghost use Rattle.scalapack_top.specs.Input.{of_read, of_text, runnable_by, script_in, script_from, matrix_from};
 ghost use Rattle.scalapack_top.specs.Causes.{Comes, IsOfText, IsStep};
-ghost use Rattle.scalapack_top.specs.Read.{RunsOn};
+ghost use Rattle.scalapack_top.specs.Read.{RunsOn, settled};
 
 use crate::status::Status;
 use crate::words::Machine;
@@ -16,17 +15,11 @@ use run_data::{Mat, Script};
 use script_text::{Refused, TextFault, first_unrunnable, parse_matrix, parse_script};
 use std::alloc::Global;
 
-// The bytes of a file; its number is 0 for the script.
-fn read_file<F: Shelf>(
-    alloc: Global,
-    shelf: &mut F,
-    name: &str,
-    file: u32,
-) -> Result<Vec<u8>, Status>
-    ensures read { IsStep (λ v. v.items) (λ held. of_read file (read_answer held name.now)) after_read (F.told shelf.old) (F.told shelf.new) (F.faults shelf.old) (F.faults shelf.new) (F.longs shelf.old) (F.longs shelf.new) result }
-    ensures short { IfOk result (λ v. length v.items ≤ 16777216) }
+// What an answer of the shelf comes to; the number of the script's file is 0.
+fn settled(file: u32, answer: Result<Vec<u8>, ShelfFault>) -> Result<Vec<u8>, Status>
+    ensures { result ≡ settled file answer }
 {
-    match shelf.read(alloc, name) {
+    match answer {
         Ok(bytes) => Ok(bytes),
         Err(ShelfFault::Failed) => Err(Status::ReadFault { file }),
         Err(ShelfFault::TooLong) => Err(Status::Refused {
@@ -36,6 +29,19 @@ fn read_file<F: Shelf>(
         }),
         Err(ShelfFault::NoMemory) => Err(Status::NoMemory),
     }
+}
+
+// The bytes of a file; its number is 0 for the script.
+fn read_file<F: Shelf>(
+    alloc: Global,
+    shelf: &mut F,
+    name: &str,
+    file: u32,
+) -> Result<Vec<u8>, Status>
+    ensures read { IsStep (λ v. v.items) name.now (of_read file) (F.told shelf.old) (F.told shelf.new) (F.faults shelf.old) (F.faults shelf.new) (F.longs shelf.old) (F.longs shelf.new) result }
+    ensures short { IfOk result (λ v. length v.items ≤ 16777216) }
+{
+    settled(file, shelf.read(alloc, name))
 }
 
 // The answer for a broken rule.
@@ -118,7 +124,7 @@ pub fn read_script<F: Shelf>(
     shelf: &mut F,
     name: &str,
 ) -> Result<Script, Status>
-    ensures read { IsStep (λ s. s) (script_from machine name.now) after_read (F.told shelf.old) (F.told shelf.new) (F.faults shelf.old) (F.faults shelf.new) (F.longs shelf.old) (F.longs shelf.new) result }
+    ensures read { IsStep (λ s. s) name.now (script_from machine) (F.told shelf.old) (F.told shelf.new) (F.faults shelf.old) (F.faults shelf.new) (F.longs shelf.old) (F.longs shelf.new) result }
     ensures accepted { IfOk result IsAccepted }
     ensures runs { IfOk result (RunsOn machine) }
 {
@@ -137,7 +143,7 @@ pub fn read_matrix<F: Shelf>(
     m: u32,
     n: u32,
 ) -> Result<Mat, Status>
-    ensures read { IsStep (λ a. a) (matrix_from name.now line m n) after_read (F.told shelf.old) (F.told shelf.new) (F.faults shelf.old) (F.faults shelf.new) (F.longs shelf.old) (F.longs shelf.new) result }
+    ensures read { IsStep (λ a. a) name.now (matrix_from line m n) (F.told shelf.old) (F.told shelf.new) (F.faults shelf.old) (F.faults shelf.new) (F.longs shelf.old) (F.longs shelf.new) result }
     ensures residues { IfOk result (HasResidues m n) }
 {
     match read_file(alloc, shelf, name, line) {

@@ -12,6 +12,3 @@ pub use live::{
     Groups, factoring, find, is_live, is_live_beside, is_live_list, is_live_matrix, layout_at,
     live_groups,
 };
-
-#[cfg(test)]
-mod tests;

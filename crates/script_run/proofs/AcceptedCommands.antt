@@ -5,9 +5,9 @@ use Rattle.std.proofs.lemmas.Bool.{false≢true}
 use Rattle.run_data.specs.declared.command.Command.{Command}
 use Rattle.run_data.specs.declared.command.Command.TheVariants as c
 use Rattle.run_data.specs.Script.{Numbered, commands_of, command_at}
-use Rattle.script_text.specs.Accepted.{KeepsRules, IsAccepted}
-use Rattle.script_text.specs.Runs.{first_unrunnable}
-use Rattle.script_text.proofs.Limits.{print_kept, run_kept}
+use Rattle.script_bounds.specs.Accepted.{KeepsRules, IsAccepted}
+use Rattle.script_rules.specs.Runs.{first_unrunnable}
+use Rattle.script_bounds.proofs.Limits.{print_kept, run_kept}
 use Rattle.run_records.specs.RunText.{is_matrix_line, MeansMatrix, IsPlainCommand, ArePlainCommands, LinesRise}
 use Rattle.run_records.proofs.Names.{commands-rise}
 use Rattle.run_records.proofs.LineJobs.{Contains-head, Contains-later, command_at-there}

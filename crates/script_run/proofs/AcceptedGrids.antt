@@ -6,14 +6,13 @@ use Rattle.std.proofs.lemmas.Option.{same_Some}
 use Rattle.run_data.specs.declared.command.Command.{Command}
 use Rattle.run_data.specs.declared.command.Command.TheVariants as c
 use Rattle.run_data.specs.Script.{Numbered, commands_of, command_at, is_grid, grids_before}
-use Rattle.blacs_grid.specs.declared.TheConstants.{MAX_RANKS}
 use Rattle.blacs_grid.specs.declared.Grid.{Grid}
-use Rattle.blacs_grid.specs.Limits.{IsGrid}
+use Rattle.blacs_grid.specs.Limits.{IsGrid, rank_limit}
 use Rattle.rank_machine.specs.Setting.{sizes, no_grid}
 use Rattle.rank_machine.specs.Scripts.{Matrices, grid_made, ranks_made, grids_from, setting_of}
-use Rattle.script_text.specs.Rules.{total_after, ranks_made as ranks_of_command}
-use Rattle.script_text.specs.Accepted.{KeepsRules, IsAccepted}
-use Rattle.script_text.proofs.Limits.{HasLimits, limits_of_grid, ranks_few}
+use Rattle.script_rules.specs.Rules.{total_after, ranks_made as ranks_of_command}
+use Rattle.script_bounds.specs.Accepted.{KeepsRules, IsAccepted}
+use Rattle.script_bounds.proofs.Limits.{HasLimits, limits_of_grid, ranks_few}
 use Rattle.run_records.specs.RunText.{LinesRise}
 use Rattle.script_lines.specs.Layouts.{AreGrids}
 use Rattle.script_run.proofs.AcceptedCommands.{AreThere, there-all, there-first, there-later}
@@ -38,7 +37,7 @@ sizes-from before (n ∷ more) first =
     let same = same_ranks n.command in
     omega (arith, here, rest, same)
 
-pub sizes-few : (script : List (Option Command)) → KeepsRules script → sizes (grids_from 0 (commands_of script)) ≤ MAX_RANKS
+pub sizes-few : (script : List (Option Command)) → KeepsRules script → sizes (grids_from 0 (commands_of script)) ≤ rank_limit
 sizes-few script h = let few = ranks_few script h in let same = sizes-from [] (commands_of script) 0 in omega (arith, few, same)
 
 -- ---- limits
@@ -50,7 +49,7 @@ limited : (script : List (Option Command)) (line : ℕ) (command : Command) → 
 limited script line (c.Grid name p q f) h e = limits_of_grid script line name p q f h e
 limited script line command h e = tt
 
-pub IsGrid-from_limits : (p q f first : ℕ) → HasLimits p q f → first + p * (q + f) ≤ MAX_RANKS → IsGrid (record { p = p; q = q; f = f; first = first })
+pub IsGrid-from_limits : (p q f first : ℕ) → HasLimits p q f → first + p * (q + f) ≤ rank_limit → IsGrid (record { p = p; q = q; f = f; first = first })
 IsGrid-from_limits p q f first limits few = record {
   some_rows = limits.some_rows;
   rows = limits.rows;
@@ -60,11 +59,11 @@ IsGrid-from_limits p q f first limits few = record {
   ranks = few;
 }
 
-grids_more : (command : Command) (first : ℕ) (rest : List Grid) → IsLimited command → first + ranks_made command ≤ MAX_RANKS → AreGrids rest → AreGrids (grid_made command first ++ rest)
+grids_more : (command : Command) (first : ℕ) (rest : List Grid) → IsLimited command → first + ranks_made command ≤ rank_limit → AreGrids rest → AreGrids (grid_made command first ++ rest)
 grids_more (c.Grid name p q f) first rest limits few all = (IsGrid-from_limits p q f first limits few, all)
 grids_more command first rest limits few all = all
 
-grids-within : (script : List (Option Command)) (more : List Numbered) (first : ℕ) → KeepsRules script → AreThere (commands_of script) more → first + sizes (grids_from first more) ≤ MAX_RANKS → AreGrids (grids_from first more)
+grids-within : (script : List (Option Command)) (more : List Numbered) (first : ℕ) → KeepsRules script → AreThere (commands_of script) more → first + sizes (grids_from first more) ≤ rank_limit → AreGrids (grids_from first more)
 grids-within script [] first h all few = tt
 grids-within script (n ∷ more) first h all few =
     let here = sizes-made n.command first (grids_from (first + ranks_made n.command) more) in

@@ -8,13 +8,12 @@ use Rattle.run_data.specs.Matrix.{cols}
 use Rattle.run_data.specs.Script.{Numbered, commands_of, command_at, grids_before}
 use Rattle.array_desc.specs.Descriptors.{desc_of, IsDesc}
 use Rattle.blacs_grid.specs.declared.Grid.{Grid}
-use Rattle.blacs_grid.specs.declared.TheConstants.{MAX_RANKS}
-use Rattle.blacs_grid.specs.Limits.{IsGrid}
+use Rattle.blacs_grid.specs.Limits.{IsGrid, rank_limit}
 use Rattle.rank_machine.specs.Setting.{Setting, Layout, Job, ranks, no_grid, job, layout, is_matrix}
 use Rattle.rank_machine.specs.Scripts.{Matrices, file_of, grids_from, line_meant, layout_on, setting_of}
-use Rattle.script_text.specs.Accepted.{KeepsRules, IsAccepted}
-use Rattle.script_text.specs.Runs.{first_unrunnable}
-use Rattle.script_text.proofs.Limits.{HasLimits, MatrixKept, matrix_kept, no_code_columns}
+use Rattle.script_bounds.specs.Accepted.{KeepsRules, IsAccepted}
+use Rattle.script_rules.specs.Runs.{first_unrunnable}
+use Rattle.script_bounds.proofs.Limits.{HasLimits, MatrixKept, matrix_kept, no_code_columns}
 use Rattle.run_records.specs.Plain.{IsLaidOut}
 use Rattle.run_records.specs.RunText.{is_matrix_line}
 use Rattle.run_records.specs.Taken.{AllShaped}
@@ -55,7 +54,7 @@ matrix_line-makes script files line h =
 
 -- ---- layouts
 -- a matrix that keeps the rules lies where its grid begins
-laid_on : (s : Setting) (g : Grid) (p q f start number m n mb nb rsrc csrc : ℕ) → g ≡ record { p = p; q = q; f = f; first = start } → HasLimits p q f → f ≡ 0 → start + p * (q + f) ≤ ranks s → ranks s ≤ MAX_RANKS
+laid_on : (s : Setting) (g : Grid) (p q f start number m n mb nb rsrc csrc : ℕ) → g ≡ record { p = p; q = q; f = f; first = start } → HasLimits p q f → f ≡ 0 → start + p * (q + f) ≤ ranks s → ranks s ≤ rank_limit
     → ((ctxt : ℕ) → IsDesc p q (desc_of ctxt p q m n mb nb rsrc csrc)) → IsLaidOut s (layout_on number g m n mb nb rsrc csrc)
 laid_on s g p q f start number m n mb nb rsrc csrc e limits none inside few in_range =
     let there : Grid = record { p = p; q = q; f = f; first = start } in

@@ -10,9 +10,9 @@ use Rattle.rank_machine.specs.declared.record.Loss.{Loss}
 use Rattle.rank_machine.specs.Setting.{Setting, Job, job, is_matrix, factored}
 use Rattle.rank_machine.specs.Scripts.{Matrices, job_of, jobs_from, grids_from, loss_made, losses_in, line_meant, setting_of}
 use Rattle.rank_machine.proofs.Jobs.{job_of-line}
-use Rattle.script_text.specs.Accepted.{IsAccepted}
-use Rattle.script_text.specs.Runs.{can_run, first_unrunnable}
-use Rattle.script_text.proofs.Limits.{run_kept}
+use Rattle.script_bounds.specs.Accepted.{IsAccepted}
+use Rattle.script_rules.specs.Runs.{can_run, first_unrunnable}
+use Rattle.script_bounds.proofs.Limits.{run_kept}
 use Rattle.run_records.specs.Plain.{Rise, IsPlain}
 use Rattle.run_records.specs.RunText.{LinesRise, MeansMatrix}
 use Rattle.run_records.proofs.Names.{commands-rise, line_meant-print, matrix_line-above}

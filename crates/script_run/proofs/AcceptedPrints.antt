@@ -14,9 +14,10 @@ use Rattle.rank_machine.specs.Scripts.{Matrices, job_of, jobs_from, grids_from, 
 use Rattle.rank_machine.specs.State.{end_mark}
 use Rattle.rank_machine.specs.Effect.{has_ended, is_dropped, is_live_matrix}
 use Rattle.rank_machine.proofs.Jobs.{job_of-line}
-use Rattle.script_text.specs.Accepted.{KeepsRules}
-use Rattle.script_text.specs.Runs.{first_unrunnable}
-use Rattle.script_text.proofs.Limits.{NameKept, drop_kept, maker-lt}
+use Rattle.script_bounds.specs.Accepted.{KeepsRules}
+use Rattle.script_rules.specs.Runs.{first_unrunnable}
+use Rattle.script_bounds.proofs.Limits.{NameKept, drop_kept}
+use Rattle.script_rules.proofs.Before.{maker-lt}
 use Rattle.run_records.specs.Plain.{PrintsLive}
 use Rattle.run_records.specs.RunText.{is_matrix_line, LinesRise, MeansMatrix}
 use Rattle.run_records.proofs.Names.{commands-rise, matrix_line-above, IsLeft, all_left, next_left, maker-here, command-here, line_meant-print}

@@ -11,9 +11,9 @@ use Rattle.rank_machine.specs.declared.record.Loss.{Loss}
 use Rattle.rank_machine.specs.Setting.{Setting, Job, ranks, job, is_matrix}
 use Rattle.rank_machine.specs.Scripts.{Matrices, capacity_after, capacity_from, grids_from, setting_of, file_of}
 use Rattle.script_lines.specs.Sound.{IsSound}
-use Rattle.script_text.specs.Accepted.{IsAccepted, KeepsRules}
-use Rattle.script_text.specs.Runs.{first_unrunnable}
-use Rattle.script_text.proofs.Limits.{links_kept, run_kept}
+use Rattle.script_bounds.specs.Accepted.{IsAccepted, KeepsRules}
+use Rattle.script_rules.specs.Runs.{first_unrunnable}
+use Rattle.script_bounds.proofs.Limits.{links_kept, run_kept}
 use Rattle.script_lines.proofs.JobAt.{job_for, job-in_script}
 use Rattle.script_run.proofs.AcceptedCommands.{AreThere, there-all, there-first, there-later}
 use Rattle.script_run.proofs.AcceptedGrids.{accepted-grids}

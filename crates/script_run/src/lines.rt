@@ -16,8 +16,8 @@ use crate::printing::take_matrix;
 use crate::steps::commit;
 use block_world::{Mark, Mat, World};
 use field_core::F65537;
+use printed_text::matrix_text;
 use script_lines::Layout;
-use script_text::matrix_text;
 use std::alloc::{AllocError, Global};
 
 /// Ends a line by its commit.

@@ -10,45 +10,25 @@ use Rattle.std.proofs.lemmas.List.{take-append-le}
 use Rattle.run_data.specs.declared.command.Command.{Command}
 use Rattle.run_data.specs.declared.command.Command.TheVariants as c
 use Rattle.run_data.specs.Script.{Numbered, commands_of}
-use Rattle.script_text.specs.declared.fault.Refused.{Refused}
-use Rattle.script_text.specs.declared.kinds.CommandWord.{CommandWord}
-use Rattle.script_text.specs.declared.kinds.CommandWord.TheVariants as w
-use Rattle.script_text.specs.declared.kinds.Kind.{Kind}
-use Rattle.script_text.specs.declared.kinds.Kind.TheVariants.{NewName, GridName, MatrixName, ListName, ThingName, Number, FileName}
-use Rattle.script_text.specs.declared.told.Told.{Told}
-use Rattle.script_text.specs.declared.rules.TheConstants.{MAX_LINES}
-use Rattle.script_text.specs.Numbers.{number_of}
-use Rattle.script_text.specs.Kinds.{command_word, kinds_of, takes_more, has_count}
-use Rattle.script_text.specs.Rules.{first_code, word_rules, words_code, is_number, more_rules, rules}
-use Rattle.script_text.specs.Commands.{◌>>=◌, word_at, number_at, grid_of, matrix_of, pgemm_of, ptrsm_of, pgetrf_of, pgetrs_of, pgemr2d_of, links_of, numbers_of, order_of, lose_of, spares_line_of, command_as, command_of}
-use Rattle.script_text.specs.Script.{refused, command_code, form_code_of, form_code, rule_code, line_code, answer_by, line_answer, and_then, script_after, word_lines, bounded, script_of}
-use Rattle.script_text.specs.Bounds.{bound}
-use Rattle.script_text.specs.declared.bounds.TheConstants.{MAX_RECORDS}
-use Rattle.script_text.specs.Accepted.{named_words, count_rules, names_code, broken_by}
-use Rattle.script_text.specs.Told.{told_by}
-
--- ---- the first of two codes
-
-pub or_none : {X : Type 0} (a b : Option X) → option_or a b ≡ None → (a ≡ None) × (b ≡ None)
-or_none None b e = (refl, e)
-or_none (Some x) b e = absurd cc
-
-pub none_or : {X : Type 0} (a b : Option X) → a ≡ None → b ≡ None → option_or a b ≡ None
-none_or None b e f = f
-none_or (Some x) b e f = absurd cc
-
-pub first_none : (code : ℤ) (kept : Bool) (more : List (ℤ × Bool)) → first_code ((code, kept) ∷ more) ≡ None → (kept ≡ true) × (first_code more ≡ None)
-first_none code true more e = (refl, e)
-first_none code false more e = absurd cc
-
--- each of these rules is kept
-abbrev pub AllKept : List (ℤ × Bool) → Type 0
-AllKept [] = Unit {0}
-AllKept (rule ∷ rules) = (rule.1 ≡ true) × AllKept rules
-
-pub all_kept : (rules : List (ℤ × Bool)) → first_code rules ≡ None → AllKept rules
-all_kept [] e = tt
-all_kept (rule ∷ rules) e = let h = first_none rule.0 rule.1 rules e in (h.0, all_kept rules h.1)
+use Rattle.script_words.specs.declared.fault.Refused.{Refused}
+use Rattle.script_words.specs.declared.kinds.CommandWord.{CommandWord}
+use Rattle.script_words.specs.declared.kinds.CommandWord.TheVariants as w
+use Rattle.script_words.specs.declared.kinds.Kind.{Kind}
+use Rattle.script_words.specs.declared.kinds.Kind.TheVariants.{NewName, GridName, MatrixName, ListName, ThingName, Number, FileName}
+use Rattle.script_rules.specs.declared.told.Told.{Told}
+use Rattle.script_words.specs.Limits.{line_limit, record_limit}
+use Rattle.script_words.specs.Numbers.{number_of}
+use Rattle.script_words.specs.Kinds.{command_word, kinds_of, takes_more, has_count}
+use Rattle.script_words.specs.Tables.{first_code}
+use Rattle.script_rules.specs.Rules.{word_rules, words_code, is_number, more_rules, rules}
+use Rattle.script_words.specs.Commands.{◌>>=◌, word_at, number_at, grid_of, matrix_of, pgemm_of, ptrsm_of, pgetrf_of, pgetrs_of, pgemr2d_of, links_of, numbers_of, order_of, lose_of, spares_line_of, command_as, command_of}
+use Rattle.script_text.specs.Script.{refused, command_code, form_code_of, form_code, rule_code, line_code, answer_by, line_answer, and_then, script_after, bounded, script_of}
+use Rattle.script_words.specs.Lines.{word_lines}
+use Rattle.script_bounds.specs.Bounds.{bound}
+use Rattle.script_bounds.specs.Accepted.{named_words, count_rules, names_code, broken_by}
+use Rattle.script_rules.specs.Told.{told_by}
+use Rattle.script_words.proofs.Tables.{or_none, none_or, first_none}
+use Rattle.script_rules.proofs.Before.{slice_get-front, slice_get-last, take-front, length-more}
 
 -- ---- the words of a line
 
@@ -375,7 +355,7 @@ answer-some told script words c f e r = answer_as told script words None (code_o
 
 -- what a line that is read says
 pub record Said (told : Told) (script : List (Option Command)) (words : List (List ℕ)) (c : Option Command) : Type 0 where
-  pub few : nat_lt (length script) MAX_LINES ≡ true
+  pub few : nat_lt (length script) line_limit ≡ true
   pub form : form_code_of script words ≡ None
   pub rule : rule_code told script c ≡ None
   pub command : command_of words ≡ c
@@ -385,40 +365,21 @@ unfolding line_code form_code
 Said-from_line_answer told script words c e =
     let a = answered told script words c e in
     let parts = or_none (form_code script words) (rule_code told script (command_of words)) a.0 in
-    let form = or_none (first_code ((pos 11, nat_lt (length script) MAX_LINES) ∷ [])) (form_code_of script words) parts.0 in
+    let form = or_none (first_code ((pos 11, nat_lt (length script) line_limit) ∷ [])) (form_code_of script words) parts.0 in
     record {
-      few = (first_none (pos 11) (nat_lt (length script) MAX_LINES) [] form.0).0;
+      few = (first_none (pos 11) (nat_lt (length script) line_limit) [] form.0).0;
       form = form.1;
       rule = sym (ap (rule_code told script) a.1) ∙ parts.1;
       command = a.1;
     }
 
--- ---- the whole script
-
-pub slice_get-front : {X : Type 0} (xs : List X) (y : X) (i : ℕ) → i < length xs → slice_get (xs ++ y ∷ []) i ≡ slice_get xs i
-slice_get-front [] y i lt = absurd (omega arith)
-slice_get-front (x ∷ xs) y zero lt = refl
-slice_get-front (x ∷ xs) y (suc i) lt = slice_get-front xs y i (omega arith)
-
-pub slice_get-last : {X : Type 0} (xs : List X) (y : X) → slice_get (xs ++ y ∷ []) (length xs) ≡ Some y
-slice_get-last [] y = refl
-slice_get-last (x ∷ xs) y = slice_get-last xs y
-
-pub take-front : {X : Type 0} (xs : List X) (y : X) → take (length xs) (xs ++ y ∷ []) ≡ xs
-take-front [] y = refl
-take-front (x ∷ xs) y = ap (λ ys. x ∷ ys) (take-front xs y)
-
-pub length-more : {X : Type 0} (xs : List X) (y : X) → length (xs ++ y ∷ []) ≡ suc (length xs)
-length-more [] y = refl
-length-more (x ∷ xs) y = ap suc (length-more xs y)
-
 -- a script none of whose lines breaks a rule, where the whole script tells `told`
 pub record KeepsRulesOf (told : Told) (script : List (Option Command)) : Type 0 where
-  pub few : length script ≤ MAX_LINES
+  pub few : length script ≤ line_limit
   pub kept : (i : ℕ) (c : Command) → slice_get script i ≡ Some (Some c) → broken_by told (take i script) c ≡ None
 
 -- one more line, whose command breaks no rule after them
-pub KeepsRulesOf-more : (told : Told) (front : List (Option Command)) (c : Option Command) → KeepsRulesOf told front → length front < MAX_LINES → ((d : Command) → c ≡ Some d → broken_by told front d ≡ None) →
+pub KeepsRulesOf-more : (told : Told) (front : List (Option Command)) (c : Option Command) → KeepsRulesOf told front → length front < line_limit → ((d : Command) → c ≡ Some d → broken_by told front d ≡ None) →
     KeepsRulesOf told (front ++ c ∷ [])
 KeepsRulesOf-more told front c h lt own = record {
   few = omega (arith, length-more front c);
@@ -435,7 +396,7 @@ KeepsRulesOf-more told front c h lt own = record {
 
 KeepsRulesOf-next : (told : Told) (front : List (Option Command)) (words : List (List ℕ)) (c : Option Command) → KeepsRulesOf told front → Said told front words c → KeepsRulesOf told (front ++ c ∷ [])
 KeepsRulesOf-next told front words c h said =
-    KeepsRulesOf-more told front c h (ltb-true (length front) MAX_LINES said.few)
+    KeepsRulesOf-more told front c h (ltb-true (length front) line_limit said.few)
     (λ d same. said_kept told front words d said.form (ap (rule_code told front) said.command ∙ said.rule) (said.command ∙ same))
 
 pub KeepsRulesOf-none : (told : Told) → KeepsRulesOf told []
@@ -461,16 +422,16 @@ KeepsRulesOf-from_script_after told lines script e =
 
 -- ---- the bound
 
-pub read-all : (bytes : List ℕ) (script : List (Option Command)) → script_after (told_by (word_lines bytes)) [] (word_lines bytes) ≡ Ok script → bound (commands_of script) ≤ MAX_RECORDS → script_of bytes ≡ Ok script
+pub read-all : (bytes : List ℕ) (script : List (Option Command)) → script_after (told_by (word_lines bytes)) [] (word_lines bytes) ≡ Ok script → bound (commands_of script) ≤ record_limit → script_of bytes ≡ Ok script
 unfolding script_of bounded
 read-all bytes script e le =
-    let test : leb (bound (commands_of script)) MAX_RECORDS ≡ true = grind (arith, nat_tests) in
+    let test : leb (bound (commands_of script)) record_limit ≡ true = grind (arith, nat_tests) in
     ap (λ a. and_then a bounded) e ∙ ap (λ t. cond t (Ok script) (Err (refused 0 (pos 7)))) test
 
-pub read-above : (bytes : List ℕ) (script : List (Option Command)) → script_after (told_by (word_lines bytes)) [] (word_lines bytes) ≡ Ok script → MAX_RECORDS < bound (commands_of script) → script_of bytes ≡ Err (refused 0 (pos 7))
+pub read-above : (bytes : List ℕ) (script : List (Option Command)) → script_after (told_by (word_lines bytes)) [] (word_lines bytes) ≡ Ok script → record_limit < bound (commands_of script) → script_of bytes ≡ Err (refused 0 (pos 7))
 unfolding script_of bounded
 read-above bytes script e lt =
-    let test : leb (bound (commands_of script)) MAX_RECORDS ≡ false = grind (arith, nat_tests) in
+    let test : leb (bound (commands_of script)) record_limit ≡ false = grind (arith, nat_tests) in
     ap (λ a. and_then a bounded) e ∙ ap (λ t. cond t (Ok script) (Err (refused 0 (pos 7)))) test
 
 pub read-refused : (bytes : List ℕ) (r : Refused) → script_after (told_by (word_lines bytes)) [] (word_lines bytes) ≡ Err r → script_of bytes ≡ Err r

@@ -6,14 +6,13 @@ use Rattle.std.specs.Option.{option_or}
 use Rattle.std.proofs.lemmas.Bool.Decides.{nat_tests}
 use Rattle.run_data.specs.declared.command.Command.{Command}
 use Rattle.run_data.specs.Script.{commands_of}
-use Rattle.script_text.specs.declared.told.Told.{Told}
-use Rattle.script_text.specs.declared.rules.TheConstants.{MAX_LINES}
-use Rattle.script_text.specs.declared.bounds.TheConstants.{MAX_RECORDS}
-use Rattle.script_text.specs.Rules.{first_code}
-use Rattle.script_text.specs.Told.{told_by}
-use Rattle.script_text.specs.Bounds.{bound}
+use Rattle.script_rules.specs.declared.told.Told.{Told}
+use Rattle.script_words.specs.Limits.{line_limit, record_limit}
+use Rattle.script_words.specs.Tables.{first_code}
+use Rattle.script_rules.specs.Told.{told_by}
+use Rattle.script_bounds.specs.Bounds.{bound}
 use Rattle.script_text.specs.Script.{script_after}
-use Rattle.script_text.specs.Accepted.{broken_by}
+use Rattle.script_bounds.specs.Accepted.{broken_by}
 use Rattle.script_text.specs.Check.{told_of, command_broken, line_broken, refused_on, first_broken, first_refusal}
 use Rattle.script_text.proofs.Keeping.{KeepsRulesOf, KeepsRulesOf-from_script_after}
 use Rattle.script_text.proofs.Telling.{tells_same}
@@ -40,12 +39,12 @@ first_broken-none : (told : Told) (front lines : List (Option Command)) → Keep
 unfolding first_broken
 first_broken-none told front [] h = refl
 first_broken-none told front (line ∷ lines) h =
-    let room = below (length front) (length (front ++ line ∷ lines)) (length lines) MAX_LINES (length-append front (line ∷ lines)) h.few in
+    let room = below (length front) (length (front ++ line ∷ lines)) (length lines) line_limit (length-append front (line ∷ lines)) h.few in
     let here : line_broken told front line ≡ None = ap (λ t. option_or (first_code ((pos 11, t) ∷ [])) (command_broken told front line)) room ∙ command_kept told front line lines h in
     let rest = first_broken-none told (front ++ line ∷ []) lines (subst (KeepsRulesOf told) (sym (append_assoc front (line ∷ []) lines)) h) in
     ap (λ o. option_or (refused_on (suc (length front)) o) (first_broken told (front ++ line ∷ []) lines)) here ∙ rest
 
-pub first_refusal-from_script_after : (lines : List (List (List ℕ))) (script : List (Option Command)) → script_after (told_by lines) [] lines ≡ Ok script → bound (commands_of script) ≤ MAX_RECORDS → first_refusal script ≡ None
+pub first_refusal-from_script_after : (lines : List (List (List ℕ))) (script : List (Option Command)) → script_after (told_by lines) [] lines ≡ Ok script → bound (commands_of script) ≤ record_limit → first_refusal script ≡ None
 first_refusal-from_script_after lines script e le =
     let told = told_by lines in
     let h = KeepsRulesOf-from_script_after told lines script e in

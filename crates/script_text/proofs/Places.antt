@@ -11,23 +11,24 @@ use Rattle.std.proofs.lemmas.List.Sums.{sum_by-cons}
 use Rattle.run_data.specs.declared.command.Command.{Command}
 use Rattle.run_data.specs.declared.command.Command.TheVariants.{Grid}
 use Rattle.run_data.specs.Script.{Numbered, commands_from, commands_of}
-use Rattle.script_text.specs.declared.counts.Counts.{Counts}
-use Rattle.script_text.specs.declared.fault.Refused.{Refused}
-use Rattle.script_text.specs.declared.told.Told.{Told}
-use Rattle.script_text.specs.declared.rules.TheConstants.{MAX_LINES}
-use Rattle.script_text.specs.declared.bounds.TheConstants.{MAX_RECORDS}
-use Rattle.script_text.specs.Counted.{AreCounts, commands_before}
-use Rattle.script_text.specs.Rules.{first_code, ranks_made, ranks_of, grid_rules}
-use Rattle.script_text.specs.Told.{has_loss}
-use Rattle.script_text.specs.Bounds.{bound}
+use Rattle.script_rules.specs.declared.counts.Counts.{Counts}
+use Rattle.script_words.specs.declared.fault.Refused.{Refused}
+use Rattle.script_rules.specs.declared.told.Told.{Told}
+use Rattle.script_words.specs.Limits.{line_limit, record_limit}
+use Rattle.script_rules.specs.Counted.{AreCounts, commands_before}
+use Rattle.script_words.specs.Tables.{first_code}
+use Rattle.script_rules.specs.Rules.{ranks_made, ranks_of, grid_rules}
+use Rattle.script_rules.specs.Told.{has_loss}
+use Rattle.script_bounds.specs.Bounds.{bound}
 use Rattle.script_text.specs.Script.{refused}
-use Rattle.script_text.specs.Accepted.{broken_by, KeepsRules, IsAccepted}
+use Rattle.script_bounds.specs.Accepted.{broken_by, KeepsRules, IsAccepted}
 use Rattle.script_text.specs.Check.{ranks_shaped, told_of, command_broken, line_broken, refused_on, first_broken, bound_broken, first_refusal}
-use Rattle.script_text.proofs.Cuts.{drop_whole}
-use Rattle.script_text.proofs.Limits.{length-take_le}
-use Rattle.script_text.proofs.Summing.{ranks_of-sum}
-use Rattle.script_text.proofs.Counting.{AreCounts-more, commands_of-none, commands_of-some}
-use Rattle.script_text.proofs.Keeping.{or_none, first_none, all_kept, KeepsRulesOf, KeepsRulesOf-more, KeepsRulesOf-none}
+use Rattle.script_words.proofs.Cuts.{drop_whole}
+use Rattle.script_rules.proofs.Before.{length-take_le}
+use Rattle.script_bounds.proofs.Summing.{ranks_of-sum}
+use Rattle.script_rules.proofs.Counting.{AreCounts-more, commands_of-none, commands_of-some}
+use Rattle.script_words.proofs.Tables.{or_none, first_none, all_kept}
+use Rattle.script_text.proofs.Keeping.{KeepsRulesOf, KeepsRulesOf-more, KeepsRulesOf-none}
 use Rattle.script_text.proofs.Telling.{rules_of, KeepsRules-from_Of, apart-from_Of}
 
 -- the lines up to a place, with the line there
@@ -110,8 +111,8 @@ unfolding first_broken
 KeepsRulesOf-from_first_broken told front [] h e = subst (KeepsRulesOf told) (sym (append-nil front)) h
 KeepsRulesOf-from_first_broken told front (line ∷ lines) h e =
     let parts = or_none (refused_on (suc (length front)) (line_broken told front line)) _ e in
-    let two = or_none (first_code ((pos 11, nat_lt (length front) MAX_LINES) ∷ [])) _ (not_refused (suc (length front)) (line_broken told front line) parts.0) in
-    let few = ltb-true (length front) MAX_LINES (first_none (pos 11) (nat_lt (length front) MAX_LINES) [] two.0).0 in
+    let two = or_none (first_code ((pos 11, nat_lt (length front) line_limit) ∷ [])) _ (not_refused (suc (length front)) (line_broken told front line) parts.0) in
+    let few = ltb-true (length front) line_limit (first_none (pos 11) (nat_lt (length front) line_limit) [] two.0).0 in
     let more = KeepsRulesOf-more told front line h few (λ d s. ap (command_broken told front) (sym s) ∙ two.1) in
     subst (KeepsRulesOf told) (append_assoc front (line ∷ []) lines) (KeepsRulesOf-from_first_broken told (front ++ line ∷ []) lines more parts.1)
 
@@ -147,7 +148,7 @@ keeps script e =
 pub KeepsRules-from_check : (script : List (Option Command)) → first_broken (told_of (commands_of script)) [] script ≡ None → KeepsRules script
 KeepsRules-from_check script e = KeepsRules-from_Of script (keeps script e)
 
-pub IsAccepted-from_check : (script : List (Option Command)) → first_broken (told_of (commands_of script)) [] script ≡ None → bound (commands_of script) ≤ MAX_RECORDS → IsAccepted script
+pub IsAccepted-from_check : (script : List (Option Command)) → first_broken (told_of (commands_of script)) [] script ≡ None → bound (commands_of script) ≤ record_limit → IsAccepted script
 IsAccepted-from_check script e le = record { lines = KeepsRules-from_check script e; apart = apart-from_Of script (keeps script e); bounded = le }
 
 -- ---- the answer of the whole
@@ -156,14 +157,14 @@ pub refused_line : (script : List (Option Command)) (r : Refused) → first_brok
 unfolding first_refusal
 refused_line script r e = ap (λ o. option_or o (bound_broken script)) e
 
-pub refused_bound : (script : List (Option Command)) → first_broken (told_of (commands_of script)) [] script ≡ None → MAX_RECORDS < bound (commands_of script) → first_refusal script ≡ Some (refused 0 (pos 7))
+pub refused_bound : (script : List (Option Command)) → first_broken (told_of (commands_of script)) [] script ≡ None → record_limit < bound (commands_of script) → first_refusal script ≡ Some (refused 0 (pos 7))
 unfolding first_refusal
 refused_bound script e lt =
-    let test : leb (bound (commands_of script)) MAX_RECORDS ≡ false = grind (arith, nat_tests) in
+    let test : leb (bound (commands_of script)) record_limit ≡ false = grind (arith, nat_tests) in
     ap (λ o. option_or o (bound_broken script)) e ∙ ap (λ t. cond t None (Some (refused 0 (pos 7)))) test
 
-pub refused_none : (script : List (Option Command)) → first_broken (told_of (commands_of script)) [] script ≡ None → bound (commands_of script) ≤ MAX_RECORDS → first_refusal script ≡ None
+pub refused_none : (script : List (Option Command)) → first_broken (told_of (commands_of script)) [] script ≡ None → bound (commands_of script) ≤ record_limit → first_refusal script ≡ None
 unfolding first_refusal
 refused_none script e le =
-    let test : leb (bound (commands_of script)) MAX_RECORDS ≡ true = grind (arith, nat_tests) in
+    let test : leb (bound (commands_of script)) record_limit ≡ true = grind (arith, nat_tests) in
     ap (λ o. option_or o (bound_broken script)) e ∙ ap (λ t. cond t None (Some (refused 0 (pos 7)))) test

@@ -1,29 +1,15 @@
 -- Reading the lines of a script one after another, as a loop does.
-use Rattle.std.proofs.Common.{◌≡◌, ℕ, ◌<◌, List, [], ◌∷◌, ◌++◌, length, drop, map, Result, Ok, Err, refl, sym, ap, ◌∙◌, arith}
+use Rattle.std.proofs.Common.{◌≡◌, ℕ, ◌<◌, List, [], ◌∷◌, ◌++◌, length, drop, Result, Ok, Err, sym, ap, ◌∙◌}
 use Rattle.run_data.specs.declared.command.Command.{Command}
 use Rattle.std.specs.Prelude.{Option}
-use Rattle.script_text.specs.declared.fault.Refused.{Refused}
-use Rattle.script_text.specs.declared.fault.TextFault.{TextFault}
-use Rattle.script_text.specs.declared.fault.TextFault.TheVariants as faults
-use Rattle.script_text.specs.declared.told.Told.{Told}
-use Rattle.script_text.specs.Gives.{Fails}
-use Rattle.script_text.specs.Lines.{until, from_on, is_line_feed, lines_of, line_words}
-use Rattle.script_text.specs.Script.{and_then, line_answer, script_after, word_lines}
-use Rattle.script_text.proofs.Cuts.{lines_of-cut}
-
--- the first line as words, and the lines after it
-pub word_lines-cut : (text line after next : List ℕ) → 0 < length text → line ≡ until is_line_feed text → after ≡ from_on is_line_feed text → next ≡ drop 1 after →
-    word_lines text ≡ line_words line ∷ word_lines next
-unfolding word_lines
-word_lines-cut [] line after next lt l a n = absurd (omega arith)
-word_lines-cut (b ∷ bs) line after next lt l a n =
-    ap (map line_words) (lines_of-cut b bs)
-    ∙ ap (λ (p : List ℕ × List ℕ). line_words p.0 ∷ map line_words (lines_of p.1)) (sym (λ i. (l i, (n ∙ ap (drop 1) a) i)))
-
-pub word_lines-end : (text : List ℕ) → length text ≡ 0 → word_lines text ≡ []
-unfolding word_lines
-word_lines-end [] e = refl
-word_lines-end (b ∷ bs) e = absurd (omega arith)
+use Rattle.script_words.specs.declared.fault.Refused.{Refused}
+use Rattle.script_words.specs.declared.fault.TextFault.{TextFault}
+use Rattle.script_words.specs.declared.fault.TextFault.TheVariants as faults
+use Rattle.script_rules.specs.declared.told.Told.{Told}
+use Rattle.script_words.specs.Gives.{Fails}
+use Rattle.script_words.specs.Lines.{until, from_on, is_line_feed, line_words, word_lines}
+use Rattle.script_text.specs.Script.{and_then, line_answer, script_after}
+use Rattle.script_words.proofs.Cuts.{word_lines-cut, word_lines-end}
 
 abbrev pub Answer : Type 0
 Answer = Result (List (Option Command)) Refused

@@ -5,15 +5,15 @@ use Rattle.std.specs.Option.{option_or}
 use Rattle.run_data.specs.declared.command.Command.{Command}
 use Rattle.run_data.specs.declared.command.Command.TheVariants as c
 use Rattle.run_data.specs.Script.{Numbered, commands_of}
-use Rattle.script_text.specs.declared.fault.Refused.{Refused}
-use Rattle.script_text.specs.declared.rules.TheConstants.{MAX_LINES}
-use Rattle.script_text.specs.declared.told.Told.{Told}
-use Rattle.script_text.specs.declared.bounds.TheConstants.{MAX_RECORDS}
-use Rattle.script_text.specs.Rules.{first_code, is_shape}
-use Rattle.script_text.specs.Told.{has_loss}
+use Rattle.script_words.specs.declared.fault.Refused.{Refused}
+use Rattle.script_words.specs.Limits.{line_limit, record_limit}
+use Rattle.script_rules.specs.declared.told.Told.{Told}
+use Rattle.script_words.specs.Tables.{first_code}
+use Rattle.script_rules.specs.Rules.{is_shape}
+use Rattle.script_rules.specs.Told.{has_loss}
 use Rattle.script_text.specs.Script.{refused}
-use Rattle.script_text.specs.Accepted.{broken_by}
-use Rattle.script_text.specs.Bounds.{bound}
+use Rattle.script_bounds.specs.Accepted.{broken_by}
+use Rattle.script_bounds.specs.Bounds.{bound}
 
 -- the ranks that a command tells: those of a grid whose shape is in range, whatever else is refused of its line
 abbrev pub ranks_shaped : Command → ℕ
@@ -31,7 +31,7 @@ command_broken told script (Some c) = broken_by told script c
 
 -- the same after the rule that a script has no further line
 abbrev pub line_broken : Told → List (Option Command) → Option Command → Option ℤ
-line_broken told script line = option_or (first_code ((pos 11, nat_lt (length script) MAX_LINES) ∷ [])) (command_broken told script line)
+line_broken told script line = option_or (first_code ((pos 11, nat_lt (length script) line_limit) ∷ [])) (command_broken told script line)
 
 abbrev pub refused_on : ℕ → Option ℤ → Option Refused
 refused_on line None = None
@@ -44,7 +44,7 @@ first_broken told script (line ∷ lines) = option_or (refused_on (suc (length s
 
 -- the bound on the records
 abbrev pub bound_broken : List (Option Command) → Option Refused
-bound_broken script = if nat_le (bound (commands_of script)) MAX_RECORDS then None else Some (refused 0 (pos 7))
+bound_broken script = if nat_le (bound (commands_of script)) record_limit then None else Some (refused 0 (pos 7))
 
 -- the first rule that a script breaks: of its lines, one after another, and then the bound on its records
 unfoldable pub first_refusal : List (Option Command) → Option Refused

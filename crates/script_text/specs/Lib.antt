@@ -1,17 +1,2 @@
-pub mod Lines
-pub mod Numbers
-pub mod Names
-pub mod Kinds
-pub mod Routines
-pub mod Rules
-pub mod Told
-pub mod Counted
-pub mod Commands
-pub mod Steps
-pub mod Bounds
-pub mod Runs
 pub mod Script
-pub mod Accepted
 pub mod Check
-pub mod MatrixFile
-pub mod Gives

@@ -1,19 +1,19 @@
 -- The script that a text is, or the first rule that it breaks.
-use Rattle.std.specs.Prelude.{ℕ, suc, if◌then◌else◌, nat_lt, nat_le, List, [], ◌∷◌, ◌++◌, length, map, Option, Some, None, Result, Ok, Err, ℤ, pos}
+use Rattle.std.specs.Prelude.{ℕ, suc, if◌then◌else◌, nat_lt, nat_le, List, [], ◌∷◌, ◌++◌, length, Option, Some, None, Result, Ok, Err, ℤ, pos}
 use Rattle.std.specs.Option.{option_or}
 use Rattle.run_data.specs.declared.command.Command.{Command}
 use Rattle.run_data.specs.Script.{commands_of}
-use Rattle.script_text.specs.declared.fault.Refused.{Refused}
-use Rattle.script_text.specs.declared.kinds.CommandWord.{CommandWord}
-use Rattle.script_text.specs.declared.rules.TheConstants.{MAX_LINES}
-use Rattle.script_text.specs.declared.told.Told.{Told}
-use Rattle.script_text.specs.declared.bounds.TheConstants.{MAX_RECORDS}
-use Rattle.script_text.specs.Lines.{lines_of, line_words}
-use Rattle.script_text.specs.Kinds.{command_word, kinds_of, takes_more, has_count}
-use Rattle.script_text.specs.Rules.{first_code, words_code, more_rules, rules}
-use Rattle.script_text.specs.Commands.{command_of}
-use Rattle.script_text.specs.Bounds.{bound}
-use Rattle.script_text.specs.Told.{told_by}
+use Rattle.script_words.specs.declared.fault.Refused.{Refused}
+use Rattle.script_words.specs.declared.kinds.CommandWord.{CommandWord}
+use Rattle.script_words.specs.Limits.{line_limit, record_limit}
+use Rattle.script_rules.specs.declared.told.Told.{Told}
+use Rattle.script_words.specs.Kinds.{command_word, kinds_of, takes_more, has_count}
+use Rattle.script_words.specs.Tables.{first_code}
+use Rattle.script_rules.specs.Rules.{words_code, more_rules, rules}
+use Rattle.script_words.specs.Commands.{command_of}
+use Rattle.script_bounds.specs.Bounds.{bound}
+use Rattle.script_rules.specs.Told.{told_by}
+use Rattle.script_words.specs.Lines.{word_lines}
 
 -- a rule of the script, by the line that breaks it; line 0 is the whole script
 abbrev pub refused : ℕ → ℤ → Refused
@@ -33,7 +33,7 @@ form_code_of script (first ∷ others) = command_code script (command_word first
 
 -- the same after the rule that a script has no further line
 unfoldable pub form_code : List (Option Command) → List (List ℕ) → Option ℤ
-form_code script words = option_or (first_code ((pos 11, nat_lt (length script) MAX_LINES) ∷ [])) (form_code_of script words)
+form_code script words = option_or (first_code ((pos 11, nat_lt (length script) line_limit) ∷ [])) (form_code_of script words)
 
 -- the first of its command's rules that a line breaks
 unfoldable pub rule_code : Told → List (Option Command) → Option Command → Option ℤ
@@ -61,13 +61,9 @@ unfoldable pub script_after : Told → List (Option Command) → List (List (Lis
 script_after told script [] = Ok script
 script_after told script (words ∷ lines) = and_then (line_answer told script words) (λ c. script_after told (script ++ c ∷ []) lines)
 
--- the lines of a text, each as its words
-unfoldable pub word_lines : List ℕ → List (List (List ℕ))
-word_lines bytes = map line_words (lines_of bytes)
-
 -- after all lines: the bound on the records
 unfoldable pub bounded : List (Option Command) → Result (List (Option Command)) Refused
-bounded script = if nat_le (bound (commands_of script)) MAX_RECORDS then Ok script else Err (refused 0 (pos 7))
+bounded script = if nat_le (bound (commands_of script)) record_limit then Ok script else Err (refused 0 (pos 7))
 
 -- the script that the bytes spell, or the first rule that they break
 unfoldable pub script_of : List ℕ → Result (List (Option Command)) Refused

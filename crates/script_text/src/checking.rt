@@ -3,20 +3,18 @@ ghost use Rattle.std.specs.Prelude.{◌≡◌, ◌≤◌, ◌<◌, ◌-◌, ◌+
 ghost use Rattle.std.specs.Option.{option_or};
 ghost use Rattle.std.specs.List.{sum_by};
 ghost use Rattle.run_data.specs.Script.{commands_of};
-ghost use Rattle.script_text.specs.Rules.{first_code, word_rules};
-ghost use Rattle.script_text.specs.Counted.{AreCounts, commands_before};
-ghost use Rattle.script_text.specs.Told.{has_loss};
-ghost use Rattle.script_text.specs.Accepted.{count_rules, named_words, names_code, broken_by, IsAccepted};
+ghost use Rattle.script_words.specs.Tables.{first_code};
+ghost use Rattle.script_rules.specs.Rules.{word_rules};
+ghost use Rattle.script_rules.specs.Counted.{AreCounts, commands_before};
+ghost use Rattle.script_rules.specs.Told.{has_loss};
+ghost use Rattle.script_bounds.specs.Accepted.{count_rules, named_words, names_code, broken_by, IsAccepted};
 ghost use Rattle.script_text.specs.Check.{ranks_shaped, told_of, line_broken, first_broken, first_refusal};
 
-use crate::bounds::{MAX_RECORDS, bound};
-use crate::counts::Counts;
-use crate::fault::Refused;
-use crate::kinds::Kind;
-use crate::reading::above_bound;
-use crate::rules::{MAX_LINES, is_shape, word_code};
-use crate::told::Told;
+use crate::reading::{MAX_LINES, MAX_RECORDS, above_bound};
 use run_data::{Command, Script};
+use script_bounds::bound;
+use script_rules::{Counts, Told, is_shape, word_code};
+use script_words::{Kind, Refused};
 
 // The ranks of a grid whose shape is in range.
 fn ranks_shaped(command: &Command) -> u64

@@ -1,22 +1,27 @@
 //! Reading a script.
 ghost use Rattle.std.specs.Prelude.{◌≡◌, ◌≤◌, ◌<◌, ◌++◌, ◌∷◌, [], suc, length, Ok, Err, IfOk, IfErr, IfNone, OnOk, pos};
 ghost use Rattle.run_data.specs.Script.{commands_of};
-ghost use Rattle.script_text.specs.Gives.{Gives, Fails};
-ghost use Rattle.script_text.specs.Counted.{AreCounts};
-ghost use Rattle.script_text.specs.Script.{refused, command_code, form_code, line_answer, script_after, word_lines, script_of};
-ghost use Rattle.script_text.specs.Accepted.{IsAccepted};
+ghost use Rattle.script_words.specs.Gives.{Gives, Fails};
+ghost use Rattle.script_rules.specs.Counted.{AreCounts};
+ghost use Rattle.script_text.specs.Script.{refused, command_code, form_code, line_answer, script_after, script_of};
+ghost use Rattle.script_words.specs.Lines.{word_lines};
+ghost use Rattle.script_bounds.specs.Accepted.{IsAccepted};
 ghost use Rattle.script_text.specs.Check.{first_refusal};
+ghost use Rattle.script_words.specs.Limits.{line_limit};
 
-use crate::bounds::{MAX_RECORDS, bound};
-use crate::commands::command_of;
-use crate::counts::Counts;
-use crate::fault::{Refused, TextFault};
-use crate::kinds::{CommandWord, command_word};
-use crate::lines::{Stop, cut, line_words, skip_one};
-use crate::rules::{MAX_LINES, more_code, words_code};
-use crate::told::{Told, told_by};
 use run_data::{Command, Script, Word};
+use script_bounds::bound;
+use script_rules::{Counts, Told, more_code, told_by, words_code};
+use script_words::{
+    CommandWord, Refused, Stop, TextFault, command_of, command_word, cut, line_words, skip_one,
+};
 use std::alloc::Global;
+
+/// The greatest number of lines of a script.
+pub const MAX_LINES: u32 = 4096;
+
+/// The greatest number of records that a script may make.
+pub const MAX_RECORDS: u64 = 4_194_304;
 
 /// The refusal of a script whose bound is too high.
 pub fn above_bound() -> Refused
@@ -31,7 +36,7 @@ pub fn above_bound() -> Refused
 
 // The first rule of its form that a line breaks, by its command and its other words.
 fn command_code(script: &Script, command: Option<CommandWord>, others: &[Word]) -> Option<i32>
-    requires { length script.now < MAX_LINES }
+    requires { length script.now < line_limit }
     ensures { result ≡ command_code script.now command others.now }
 {
     let Some(command) = command else {
@@ -50,7 +55,7 @@ fn command_code(script: &Script, command: Option<CommandWord>, others: &[Word]) 
 #[tactic(auto, unfolding(crate::specs::Script::form_code))]
 fn form_code(script: &Script, words: &[Word]) -> Option<i32>
     ensures code { result ≡ form_code script.now words.now }
-    ensures few { IfNone result (length script.now < MAX_LINES) }
+    ensures few { IfNone result (length script.now < line_limit) }
 {
     if script.lines() >= MAX_LINES {
         return Some(11);
@@ -76,10 +81,10 @@ fn read_line(
     counts: Counts,
     words: &[Word],
 ) -> Result<Read, TextFault>
-    requires few { length script.now ≤ MAX_LINES }
+    requires few { length script.now ≤ line_limit }
     requires counts { AreCounts counts (length script.now) (commands_of script.now) }
     ensures line { IfOk result (λ r. line_answer told script.now words.now ≡ Ok r.command) }
-    ensures few { OnOk result (length script.now < MAX_LINES) }
+    ensures few { OnOk result (length script.now < line_limit) }
     ensures counted { IfOk result (λ r. AreCounts r.counts (suc (length script.now)) (commands_of (script.now ++ r.command ∷ []))) }
     ensures refused { IfErr result (λ e. Fails e (line_answer told script.now words.now)) }
 {

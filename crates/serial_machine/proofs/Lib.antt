@@ -3,4 +3,4 @@ mod Entries
 mod Whole
 mod Keeping
 mod Running
-mod Worked
+mod Names

@@ -1,4 +1,3 @@
 pub mod Values
 pub mod Ready
 pub mod Solved
-pub mod Worked

@@ -8,8 +8,6 @@ mod factors;
 mod product;
 mod run;
 mod solves;
-#[cfg(test)]
-mod tests;
 mod texts;
 mod values;
 mod windows;

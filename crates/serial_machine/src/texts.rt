@@ -7,8 +7,8 @@ ghost use Rattle.serial_machine.specs.Values.{seen_value, values_of};
 ghost use Rattle.serial_machine.specs.Ready.{IsValue, IsShort};
 
 use crate::values::{Value, Values};
+use printed_text::{info_text, matrix_text, pivots_text};
 use run_data::IndexList;
-use script_text::{info_text, matrix_text, pivots_text};
 use std::alloc::{AllocError, Global};
 
 // A name as text.

@@ -1,11 +1,7 @@
 //! The bounds of scripts, of which some were worked out by hand, and the first lines that the ranks can't run.
-ghost use Rattle.script_text.specs.Accepted.{KeepsRules};
-
 use crate::checks::{MATRICES, check_number, repeated, script};
-use run_data::{Command, Script};
-use script_text::{bound, first_unrunnable, phase_steps, ranks_of, recovery_steps};
-use std::alloc::{AllocError as NoMemory, Global};
-use std::panic::Expect;
+use script_text::{bound, first_unrunnable, phase_steps, recovery_steps};
+use std::alloc::Global;
 use std::process::Abort;
 
 // Stops where a bound, the longest phase and the recovery are not these, by the row of a table.
@@ -113,35 +109,12 @@ fn bounds_by_hand(rt: HostRuntime) {
 const FACTORIZATION: &[u8] =
     b"grid g 2 3 2\nmatrix A g 256 256 16 16 0 1 a.txt\nmatrix B g 256 4 16 16 0 0 b.txt\nlinks 1\norder 3 1 4 1 5 9 2 6\npgetrf 256 256 A 1 1 V\npgetrs N 256 4 A 1 1 V B 1 1\npivots V\nprint A\nprint B\n";
 
-// Each loss adds a phase and a recovery.
+// With three losses, each of which adds a phase and a recovery, the records are as many as in `script_bounds/proofs/Examples.antt`. As a text
+// the script with its `lose` lines breaks the rule that keeps losses and factorizations with code columns apart.
 #[test]
 fn bounds_a_factorization(rt: HostRuntime) {
     let script = script(&rt, rt.alloc(), FACTORIZATION);
     let plain = bound(&script);
     let loss = phase_steps(&script) + recovery_steps(&script);
     check_number(&rt, plain.saturating_add(loss.saturating_mul(3)), 129_537);
-}
-
-// Adds a `lose` line, where there is room for it and the rank is there.
-fn add_loss(script: &mut Script, at: u32, rank: u32) -> Result<(), NoMemory>
-    requires { KeepsRules script.old }
-    ensures { KeepsRules script.new }
-{
-    if script.lines() < 4096 && u64::from(rank) < ranks_of(script) {
-        script.push(Some(Command::Lose { at, rank }))?;
-    }
-    Ok(())
-}
-
-// The factorization with three `lose` lines. As a text it breaks the rule that keeps losses and factorizations with code columns apart,
-// which the bound leaves aside, so the `lose` lines are pushed.
-#[test]
-fn bounds_a_factorization_with_losses(rt: HostRuntime) {
-    let mut script = script(&rt, rt.alloc(), FACTORIZATION);
-    add_loss(&mut script, 1000, 0).expect(&rt, "memory");
-    add_loss(&mut script, 30000, 7).expect(&rt, "memory");
-    add_loss(&mut script, 60000, 4).expect(&rt, "memory");
-    let bound = bound(&script);
-    check_number(&rt, u64::from(script.lines()), 13);
-    check_number(&rt, bound, 129_537);
 }

@@ -1,5 +1,5 @@
 //! What the tests share: texts and what is read from them, and assertions, one for each type. Each call ends the test where memory lacks.
-ghost use Rattle.script_text.specs.Accepted.{KeepsRules};
+ghost use Rattle.script_bounds.specs.Accepted.{KeepsRules};
 
 use run_data::{Mat, Script};
 use script_text::{Refused, TextFault, parse_matrix, parse_script};

@@ -77,7 +77,7 @@ fn refuses_words(rt: HostRuntime) {
         (b"grid g 1 1 0 0", (1, 2)),
         (b"order", (1, 2)),
         (b"order 1 2 3 x", (1, 3)),
-        (b"order 4096", (1, 8)),
+        (b"order 4095 4096", (1, 8)),
         (b"topology x", (1, 8)),
         (b"links 65", (1, 8)),
         (b"links 1\nlinks 2", (2, 16)),
@@ -168,8 +168,13 @@ fn counts_lines_and_matrices(rt: HostRuntime) {
     let one = b"grid g 1 1 0\n";
     let again = b"matrix A g 1 1 1 1 0 0 f\ndrop A\n";
     let wide = b"grid g 16 1 0\nmatrix A g 1024 1024 128 128 0 0 a.txt\n";
+    let more =
+        b"grid g 16 1 0\nmatrix A g 1024 1024 128 128 0 0 a\nmatrix B g 1 1 1 1 0 0 b\nprint B\n";
     let long = b"grid g 16 1 0\nmatrix A g 1024 1024 1 1 0 0 a.txt\n";
-    let scripts: [(&[u8], &[u8], u32, (u32, i32)); 8] = [
+    // The records of 255 lines of A, 16,385 each, and 16,129 of B's; a `drop` line has one more.
+    let full = b"grid g 16 1 0\nmatrix A g 1 1024 1 1 0 0 a\nmatrix B g 1 1008 1 1 0 0 b\n";
+    let over = b"grid g 16 1 0\nmatrix A g 1 1024 1 1 0 0 a\nmatrix B g 1 1008 1 1 0 0 b\ndrop B\n";
+    let scripts: [(&[u8], &[u8], u32, (u32, i32)); 11] = [
         (b"", b"\n", 4096, (0, 0)),
         (b"", b"#\n", 4097, (4097, 11)),
         (b"\n\nqr\n", b"\n", 4097, (3, 1)),
@@ -177,10 +182,33 @@ fn counts_lines_and_matrices(rt: HostRuntime) {
         (one, again, 257, (514, 10)),
         (wide, b"print A\n", 256, (0, 0)),
         (wide, b"print A\n", 257, (259, 10)),
+        (more, b"print A\n", 256, (260, 10)),
         (long, b"print A\n", 255, (0, 7)),
+        (full, b"print A\n", 254, (0, 0)),
+        (over, b"print A\n", 254, (0, 7)),
     ];
     for (row, (head, text, times, want)) in scripts.into_iter().enumerate() {
         let text = repeated(&rt, rt.alloc(), head, text, times);
+        check_refusal(&rt, row, refusal(&rt, rt.alloc(), &text), want);
+    }
+}
+
+// A script of a head and 256 `order` lines of 256 numbers each.
+fn ordered(rt: &impl Abort, alloc: Global, head: &[u8]) -> Vec<u8> {
+    let mut line = repeated(rt, alloc, b"order", b" 7", 256);
+    line.push(b'\n').expect(rt, "memory");
+    repeated(rt, alloc, head, &line, 256)
+}
+
+#[test]
+fn counts_order_numbers(rt: HostRuntime) {
+    let scripts: [(&[u8], (u32, i32)); 3] = [
+        (b"links 2\n", (0, 0)),
+        (b"order 4095\n", (257, 8)),
+        (b"order 1 2\n", (257, 8)),
+    ];
+    for (row, (head, want)) in scripts.into_iter().enumerate() {
+        let text = ordered(&rt, rt.alloc(), head);
         check_refusal(&rt, row, refusal(&rt, rt.alloc(), &text), want);
     }
 }

@@ -55,7 +55,7 @@ unfolding tabulate matrix
 shape = record { rows = refl; columns = refl }
 
 -- the matrix of line 2 is the only one
-makes_none : (a b c : Job) (x y : Bool) → x ≡ false → b.makes ≡ None → c.makes ≡ None → is_some (if x then a else if y then b else c).makes ≡ false
+pub makes_none : (a b c : Job) (x y : Bool) → x ≡ false → b.makes ≡ None → c.makes ≡ None → is_some (if x then a else if y then b else c).makes ≡ false
 makes_none a b c true y e f g = absurd (true≢false e)
 makes_none a b c false true e f g = ap is_some f
 makes_none a b c false false e f g = ap is_some g
@@ -74,7 +74,7 @@ found : file_of files 2 ≡ matrix
 unfolding files
 found = ap (λ (o : Option Matrix). unwrap_or o (zero_matrix 0 0)) (map.get-insert nat_cmp_total map.empty 2 matrix 2)
 
-word_or : (b : Bool) (x y : ℕ) → x < 65537 → y < 65537 → (if b then x else y) < 65537
+pub word_or : (b : Bool) (x y : ℕ) → x < 65537 → y < 65537 → (if b then x else y) < 65537
 word_or true x y e f = e
 word_or false x y e f = f
 

@@ -1,2 +1,5 @@
 pub mod Play
 pub mod OneMatrix
+pub mod OneWord
+pub mod FourRanks
+pub mod FedStrips

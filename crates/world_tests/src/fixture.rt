@@ -28,6 +28,12 @@ pub struct Left {
     pub words: [u64; 2],
     pub spawns: u32,
     pub spares: Option<u32>,
+    /// Whether rank 0 holds the matrix.
+    pub holds: bool,
+    pub steps: u32,
+    pub room: u32,
+    /// The words of what was taken, one tile after another.
+    pub taken: Vec<u32>,
 }
 
 #[tactic(auto, unfolding(run_data::specs::Matrix::tabulate, crate::specs::OneMatrix::matrix))]
@@ -72,7 +78,8 @@ fn layout_of() -> Layout
     }
 }
 
-fn grid_line(alloc: Global, name: &[u8]) -> Result<Option<Command>, AllocError>
+/// A line that makes a grid of one rank.
+pub fn grid_line(alloc: Global, name: &[u8]) -> Result<Option<Command>, AllocError>
     ensures { IfOk result (λ line. line ≡ Some (Command.Grid name.now 1 1 0)) }
 {
     Ok(Some(Command::Grid {
@@ -83,28 +90,32 @@ fn grid_line(alloc: Global, name: &[u8]) -> Result<Option<Command>, AllocError>
     }))
 }
 
-fn matrix_line(
+/// A line that makes a matrix of one block.
+pub fn matrix_line(
     alloc: Global,
     name: &[u8],
     grid: &[u8],
+    m: u32,
+    n: u32,
     file: &[u8],
 ) -> Result<Option<Command>, AllocError>
-    ensures { IfOk result (λ line. line ≡ Some (Command.Matrix name.now grid.now 2 3 2 3 0 0 file.now)) }
+    ensures { IfOk result (λ line. line ≡ Some (Command.Matrix name.now grid.now m n m n 0 0 file.now)) }
 {
     Ok(Some(Command::Matrix {
         name: Word::new(alloc, name)?,
         grid: Word::new(alloc, grid)?,
-        m: 2,
-        n: 3,
-        mb: 2,
-        nb: 3,
+        m,
+        n,
+        mb: m,
+        nb: n,
         rsrc: 0,
         csrc: 0,
         file: Word::new(alloc, file)?,
     }))
 }
 
-fn print_line(alloc: Global, name: &[u8]) -> Result<Option<Command>, AllocError>
+/// A line that prints a matrix.
+pub fn print_line(alloc: Global, name: &[u8]) -> Result<Option<Command>, AllocError>
     ensures { IfOk result (λ line. line ≡ Some (Command.Print name.now)) }
 {
     Ok(Some(Command::Print {
@@ -141,7 +152,7 @@ fn script_of(
 {
     let mut script = Script::new(alloc);
     script.push(grid_line(alloc, b"g")?)?;
-    script.push(matrix_line(alloc, b"A", b"g", b"a.txt")?)?;
+    script.push(matrix_line(alloc, b"A", b"g", 2, 3, b"a.txt")?)?;
     script.push(print_line(alloc, b"A")?)?;
     script.push(grid_line(alloc, b"h")?)?;
     script.push(lose_line(first))?;
@@ -150,13 +161,23 @@ fn script_of(
     Ok(script)
 }
 
-fn left_of(alloc: Global, world: &World<'_, F65537>) -> Result<Left, AllocError> {
+/// What a world is in the end, and what was taken.
+pub fn left_of(
+    alloc: Global,
+    world: &World<'_, F65537>,
+    taken: Vec<u32>,
+) -> Result<Left, AllocError> {
+    let text = journal_text(alloc, world.journal())?;
     Ok(Left {
-        text: journal_text(alloc, world.journal())?,
+        text,
         live: [world.is_live(0), world.is_live(1)],
         words: [world.words_held(0), world.words_held(1)],
         spawns: world.spawns(),
         spares: world.spares(),
+        holds: world.holds(0, A),
+        steps: world.steps(),
+        room: world.room(),
+        taken,
     })
 }
 
@@ -175,7 +196,8 @@ pub fn played(
     let script = script_of(alloc, first, second, spares)?;
     let files = files_of(alloc)?;
     let m = matrix_of(alloc)?;
+    let mut taken = Vec::new(alloc);
     let mut world = World::<F65537>::open(alloc, &script, &files, &[first, second], 20)?;
-    play(alloc, &mut world, &m, layout_of(), records)?;
-    left_of(alloc, &world)
+    play(alloc, &mut world, &m, layout_of(), records, &mut taken)?;
+    left_of(alloc, &world, taken)
 }

@@ -1,5 +1,6 @@
 //! What a world's journal is, and what its ranks hold, where losses fall.
 use crate::fixture::{A, Left, played};
+use crate::word::played_word;
 use block_world::{Loss, Mark, Rec};
 use std::process::Abort;
 use std::test::Fail;
@@ -334,5 +335,39 @@ fn a_saved_slot_restored(rt: HostRuntime) -> Result<(), Fail> {
         [6, 0],
         0,
     );
+    Ok(())
+}
+
+// Whether rank 0 holds the matrix, how many records were made, for how many more there is room, and what was taken.
+fn check_rest(rt: &impl Abort, left: &Left, holds: bool, steps: u32, room: u32, taken: &[u32]) {
+    assert_eq!(rt; (left.holds, left.steps, left.room), (holds, steps, room));
+    assert_eq!(rt; left.taken.as_slice(), taken);
+}
+
+// One word on the only rank: it is held twice once it is saved, and once again after the next commit. The room for five is used up.
+#[test]
+fn one_word(rt: HostRuntime) -> Result<(), Fail> {
+    let alloc = rt.alloc();
+    let save = Rec::Save(0, A);
+    let saved = played_word(alloc, &[FEED, COMMIT_FED, save])?;
+    let printed = played_word(alloc, &[FEED, COMMIT_FED, save, TAKE, COMMIT_PRINTED])?;
+    check_is(
+        &rt,
+        &saved,
+        b"0 feed 0 d2.0\n1 commit 2 end 0 0 0 plain\n2 save 0 d2.0\n",
+        [true, false],
+        [2, 0],
+        0,
+    );
+    check_rest(&rt, &saved, true, 3, 2, &[]);
+    check_is(
+        &rt,
+        &printed,
+        b"0 feed 0 d2.0\n1 commit 2 end 0 0 0 plain\n2 save 0 d2.0\n3 take 0 d2.0\n4 commit 3 end 0 0 0 plain\n",
+        [true, false],
+        [1, 0],
+        0,
+    );
+    check_rest(&rt, &printed, true, 5, 0, &[7]);
     Ok(())
 }

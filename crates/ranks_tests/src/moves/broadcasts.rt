@@ -25,11 +25,9 @@ fn compare_cells(rt: &impl Abort, case: &Case, n: u32, cells: &[Cell; 64])
             Some(i) if i != case.root => word,
             _ => old.work,
         };
-        assert_eq!(rt;
-            (cell.own, cell.work),
-            (old.own, work),
-            "rank {rank} in {case:?}"
-        );
+        let want = Cell { own: old.own, work };
+        let root = case.root;
+        assert!(rt; *cell == want, "rank {rank}, root {root} of {n}");
     }
 }
 
@@ -49,7 +47,8 @@ fn compare_sends(
         sends.push((*from % 100) * 100 + *to % 100)?;
     }
     sends.sort_unstable();
-    assert_eq!(rt; rows.codes(alloc, 1)?, sends, "{case:?}");
+    let root = case.root;
+    assert_eq!(rt; rows.codes(alloc, 1)?, sends, "root {root} of {n}");
     Ok(())
 }
 

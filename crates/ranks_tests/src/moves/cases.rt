@@ -43,7 +43,7 @@ const DECREASING: [[[u32; 2]; 5]; 6] = [
 ];
 
 /// A call of `broadcast` or `combine`.
-#[derive(Clone, Copy, Debug, PartialEq, Eq)]
+#[derive(Clone, Copy)]
 pub struct Case {
     pub grid: Grid,
     pub scope: Scope,

@@ -6,21 +6,21 @@ use std::alloc::Global;
 use std::marker::Model;
 
 /// Which word of a cell.
-#[derive(Clone, Copy, Debug, PartialEq, Eq)]
+#[derive(Clone, Copy)]
 pub enum Slot {
     Own,
     Work,
 }
 
 /// What joins `work` into `own`: the sum, at most 4,294,967,295, or the lesser of both.
-#[derive(Clone, Copy, Debug, PartialEq, Eq)]
+#[derive(Clone, Copy)]
 pub enum Join {
     Add,
     Least,
 }
 
 /// Two words.
-#[derive(Clone, Copy, Debug, PartialEq, Eq)]
+#[derive(Clone, Copy, PartialEq, Eq)]
 pub struct Cell {
     pub own: u32,
     pub work: u32,
@@ -79,7 +79,7 @@ impl Store for Cell {
 }
 
 /// A step: 0 for an operation, 1 for a send, 2 for a receive; the rank that takes it; the other rank, or the same one.
-#[derive(Clone, Copy, Debug, PartialEq, Eq)]
+#[derive(Clone, Copy)]
 pub struct Row {
     pub kind: u32,
     pub rank: u32,

@@ -126,7 +126,7 @@ fn check_schedule(rt: &impl Abort, alloc: Global, capacity: u32, order: &[u32], 
     requires most { capacity ≤ 64 }
 {
     let done = run_pairs(alloc, &[(0, 1), (0, 1)], 2, capacity, order).expect(rt, "memory");
-    assert_eq!(rt; done.rows.rows(), want);
+    assert!(rt; done.rows.rows() == want);
 }
 
 #[test]
@@ -196,7 +196,7 @@ fn compare(
     )?;
     let words = words_after(alloc, pairs.as_slice(), count)?;
     assert!(rt; done.whole);
-    assert_eq!(rt; done.rows.rows(), rows.as_slice());
+    assert!(rt; done.rows.rows() == rows.as_slice());
     assert_eq!(rt; done.words, words);
     Ok(())
 }

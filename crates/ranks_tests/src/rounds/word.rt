@@ -6,7 +6,7 @@ use std::alloc::Global;
 use std::marker::Model;
 
 /// One word. An operation sets it, and every piece is the word.
-#[derive(Clone, Copy, Debug, PartialEq, Eq)]
+#[derive(Clone, Copy)]
 pub struct Word {
     pub value: u32,
 }
@@ -53,7 +53,7 @@ impl Store for Word {
 }
 
 /// A step: 0 for an operation, 1 for a send, 2 for a receive; the rank that takes it; the other rank, or the same one.
-#[derive(Clone, Copy, Debug, PartialEq, Eq)]
+#[derive(Clone, Copy, PartialEq, Eq)]
 pub struct Row {
     pub kind: u32,
     pub rank: u32,

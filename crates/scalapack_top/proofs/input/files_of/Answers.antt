@@ -1,5 +1,5 @@
 use Rattle.std.proofs.Common.{◌≡◌, get_or, sym, subst, refl}
-use Rattle.script_text.specs.Accepted.{IsAccepted}
+use Rattle.script_bounds.specs.Accepted.{IsAccepted}
 use Rattle.scalapack_top.specs.Read.{HasFiles}
 use Rattle.scalapack_top.proofs.Files.{names_text, none_read, skipped, read_more, read_fails, all_read, all_there, part_of}
 use Rattle.scalapack_top.proofs.input.files_of.Goals as goal
@@ -26,12 +26,12 @@ loop-i-preserved g c =
 
 pub returns-in-Err-clause-read : goal.returns-in-Err-clause-read
 returns-in-Err-clause-read g c =
-    part_of _ c.args.script.now _ _ _ _ _ _ c.as_slice-lines.ensures (read_fails c.as_slice-lines.result.now c.loop-i.i _ _ _ _ _ _ c.loop-i.files c.loop-i.invariant c.loop-i-test.true c.in-Some.command
-    (subst (λ o. o ≡ get_or c.as_slice-lines.result.now c.loop-i.i o) c.in-Some.is c.index-lines-i.is) _ refl c.add_file.new.files _ _ _ c.in-Err.e c.in-Err.ensures.read)
+    part_of _ c.args.script.now _ _ _ _ _ _ _ c.as_slice-lines.ensures (read_fails c.as_slice-lines.result.now c.loop-i.i _ _ _ _ _ _ c.loop-i.files c.loop-i.invariant c.loop-i-test.true c.in-Some.command
+    (subst (λ o. o ≡ get_or c.as_slice-lines.result.now c.loop-i.i o) c.in-Some.is c.index-lines-i.is) _ refl _ c.add_file.new.files _ _ _ c.in-Err.e c.in-Err.ensures.read)
 
 pub returns-clause-read : goal.returns-clause-read
 returns-clause-read g c =
-    part_of _ c.args.script.now _ _ _ _ _ _ c.as_slice-lines.ensures (all_read c.as_slice-lines.result.now c.loop-i.i _ _ _ _ _ _ c.loop-i.files c.loop-i.invariant c.loop-i-test.false)
+    part_of _ c.args.script.now _ _ _ _ _ _ _ c.as_slice-lines.ensures (all_read c.as_slice-lines.result.now c.loop-i.i _ _ _ _ _ _ c.loop-i.files c.loop-i.invariant c.loop-i-test.false)
 
 pub returns-clause-files : goal.returns-clause-files
 returns-clause-files g c =

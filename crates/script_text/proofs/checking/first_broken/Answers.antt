@@ -5,7 +5,7 @@ use Rattle.std.proofs.Common.{rules as search_rules}
 use Rattle.std.proofs.lemmas.Int.{to_z-of_z}
 use Rattle.std.specs.Prelude.{Some}
 use Rattle.run_data.specs.Script.{commands_of}
-use Rattle.script_text.specs.declared.told.Told.{Told}
+use Rattle.script_rules.specs.declared.told.Told.{Told}
 use Rattle.script_text.specs.Script.{refused}
 use Rattle.script_text.specs.Check.{told_of, first_broken}
 use Rattle.script_text.proofs.Places.{checked_more, checked_stops, checked_end}

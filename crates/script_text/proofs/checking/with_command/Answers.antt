@@ -4,7 +4,7 @@ use mir.Syntax.{w32}
 use Rattle.std.proofs.Common.{rules as search_rules}
 use Rattle.std.proofs.lemmas.Int.{to_z-of_z}
 use Rattle.std.specs.Prelude.{Some, None}
-use Rattle.script_text.proofs.Inside.{broken_split, broken_kept, broken_told}
+use Rattle.script_text.proofs.Broken.{broken_split, broken_kept, broken_told}
 use Rattle.script_text.proofs.checking.with_command.Goals as goal
 
 pub returns-in-Some-clause-broken : goal.returns-in-Some-clause-broken

@@ -5,12 +5,13 @@ use Rattle.std.proofs.Common.{rules as search_rules}
 use Rattle.std.proofs.lemmas.Int.{to_z-of_z}
 use Rattle.std.specs.Prelude.{Err, Some, None}
 use Rattle.run_data.specs.Script.{commands_of}
-use Rattle.script_text.specs.Counted.{AreCounts, commands_before}
-use Rattle.script_text.specs.Rules.{first_code, rules}
+use Rattle.script_rules.specs.Counted.{AreCounts, commands_before}
+use Rattle.script_words.specs.Tables.{first_code}
+use Rattle.script_rules.specs.Rules.{rules}
 use Rattle.script_text.specs.Script.{refused}
 use Rattle.script_text.proofs.Keeping.{answer-form, answer-rule, answer-none, answer-some}
-use Rattle.script_text.proofs.Counting.{AreCounts-more, commands_of-none, commands_of-some}
-use Rattle.script_text.proofs.Inside.{before_next}
+use Rattle.script_rules.proofs.Counting.{AreCounts-more, commands_of-none, commands_of-some}
+use Rattle.script_rules.proofs.Inside.{before_next}
 use Rattle.script_text.proofs.reading.read_line.Goals as goal
 
 pub after-requires-clause-counts : goal.after-requires-clause-counts

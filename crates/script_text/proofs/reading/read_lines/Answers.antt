@@ -1,8 +1,8 @@
 use Rattle.std.proofs.Common.{◌≡◌, ◌<◌, suc, length, drop, subst, refl, sym, ap, ◌∙◌, arith}
 use Rattle.std.proofs.lemmas.Bool.{eqb-true, eqb-false}
 use Rattle.run_data.specs.Script.{commands_of}
-use Rattle.script_text.specs.Counted.{AreCounts}
-use Rattle.script_text.proofs.Keeping.{length-more}
+use Rattle.script_rules.specs.Counted.{AreCounts}
+use Rattle.script_rules.proofs.Before.{length-more}
 use Rattle.script_text.proofs.ScriptLoop.{goes_on, stops, ends}
 use Rattle.script_text.proofs.reading.read_lines.Goals as goal
 

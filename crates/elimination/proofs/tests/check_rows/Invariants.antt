@@ -1,5 +1,0 @@
-use Rattle.elimination.specs.Whole.{AreRows}
-use Rattle.elimination.proofs.tests.check_rows.Given as goal
-
-abbrev pub invariant-loop-k : goal.invariant-loop-k
-invariant-loop-k g l = AreRows l.pivots 0 l.k l.rows

@@ -1,0 +1,4 @@
+pub mod Touched
+pub mod Capped
+pub mod GroupLaws
+pub mod SlotSums

@@ -1,0 +1,4 @@
+pub mod Standing
+pub mod Products
+pub mod Exchanges
+pub mod Searches

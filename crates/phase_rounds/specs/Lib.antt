@@ -1,0 +1,4 @@
+pub mod Strips
+pub mod Products
+pub mod Exchanges
+pub mod Searches

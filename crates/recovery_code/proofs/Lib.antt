@@ -1,0 +1,3 @@
+pub mod Seams
+pub mod Spotted
+pub mod Copying

@@ -1,0 +1,5 @@
+mod StripCounts
+mod LineCounts
+mod Judged
+mod InTime
+mod TableJobs

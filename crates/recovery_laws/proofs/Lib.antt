@@ -1,0 +1,13 @@
+pub mod AddLaws
+pub mod Totals
+pub mod Decoded
+pub mod Rebuilt
+pub mod Factored
+pub mod Alike
+pub mod FallingBack
+pub mod MarkLaws
+pub mod AllResidues
+pub mod Inside
+pub mod Commits
+pub mod Recovered
+pub mod Sensible

@@ -1,0 +1,30 @@
+use Rattle.std.proofs.Common.{Some, sym, ap, ◌∙◌, arith}
+use Rattle.std.specs.Option.{option_copied}
+use Rattle.script_bounds.proofs.Sized.{limited_of_maker}
+use Rattle.script_bounds.proofs.Sizes.{groups-few}
+use Rattle.script_bounds.proofs.bounds.print_on.Goals as goal
+
+pub groups-groups-requires-clause-process_columns : goal.groups-groups-requires-clause-process_columns
+groups-groups-requires-clause-process_columns c =
+    let e = sym c.maker_command.ensures ∙ ap option_copied c.in-Some-Grid.is ∙ ap (λ x. Some x) c.in-Some-Grid.field-0-is in
+    let h = limited_of_maker c.args.script.now c.args.line c.args.grid.now c.in-Some-Grid.field-0-0 c.in-Some-Grid.p c.in-Some-Grid.q c.in-Some-Grid.field-0-3 c.requires.rules e in
+    omega (arith, h.some_columns)
+
+pub print_records-requires-clause-rows : goal.print_records-requires-clause-rows
+print_records-requires-clause-rows c =
+    let e = sym c.maker_command.ensures ∙ ap option_copied c.in-Some-Grid.is ∙ ap (λ x. Some x) c.in-Some-Grid.field-0-is in
+    let h = limited_of_maker c.args.script.now c.args.line c.args.grid.now c.in-Some-Grid.field-0-0 c.in-Some-Grid.p c.in-Some-Grid.q c.in-Some-Grid.field-0-3 c.requires.rules e in
+    omega (arith, h.rows, c.from.ensures)
+
+pub print_records-requires-clause-columns : goal.print_records-requires-clause-columns
+print_records-requires-clause-columns c =
+    let e = sym c.maker_command.ensures ∙ ap option_copied c.in-Some-Grid.is ∙ ap (λ x. Some x) c.in-Some-Grid.field-0-is in
+    let h = limited_of_maker c.args.script.now c.args.line c.args.grid.now c.in-Some-Grid.field-0-0 c.in-Some-Grid.p c.in-Some-Grid.q c.in-Some-Grid.field-0-3 c.requires.rules e in
+    omega (arith, h.columns, c.from-in-Some-Grid.ensures)
+
+pub print_records-requires-clause-few : goal.print_records-requires-clause-few
+print_records-requires-clause-few c =
+    let e = sym c.maker_command.ensures ∙ ap option_copied c.in-Some-Grid.is ∙ ap (λ x. Some x) c.in-Some-Grid.field-0-is in
+    let h = limited_of_maker c.args.script.now c.args.line c.args.grid.now c.in-Some-Grid.field-0-0 c.in-Some-Grid.p c.in-Some-Grid.q c.in-Some-Grid.field-0-3 c.requires.rules e in
+    let g = groups-few c.args.n c.args.nb c.in-Some-Grid.q c.requires.block h.some_columns in
+    omega (arith, g, c.requires.columns, c.from-in-Some-Grid-2.ensures, c.groups-groups.ensures.value)

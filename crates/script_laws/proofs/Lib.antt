@@ -1,0 +1,3 @@
+pub mod Makers
+pub mod Factoring
+pub mod GridLines

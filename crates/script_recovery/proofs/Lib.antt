@@ -1,0 +1,5 @@
+mod GridsAt
+mod StillThere
+mod LiveMost
+mod MarksMost
+mod OwnGrids

@@ -1,0 +1,5 @@
+use Rattle.script_recovery.proofs.OwnGrids.{factors-matrix}
+use Rattle.script_recovery.proofs.recoveries.factored_lines_make_matrices.Goals as goal
+
+pub returns : goal.returns
+returns c = factors-matrix

@@ -1,0 +1,4 @@
+pub mod Inside
+pub mod Counting
+pub mod Before
+pub mod ToldLines

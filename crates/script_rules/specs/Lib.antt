@@ -1,0 +1,5 @@
+pub mod Routines
+pub mod Rules
+pub mod Told
+pub mod Counted
+pub mod Runs

@@ -1,0 +1,37 @@
+//! The lines that the ranks can run so far.
+ghost use Rattle.std.specs.Prelude.{◌≡◌};
+ghost use Rattle.run_data.specs.Script.{commands_of};
+ghost use Rattle.script_rules.specs.Runs.{can_run, first_unrunnable};
+
+use run_data::{Command, Script};
+
+fn can_run(command: &Command) -> bool
+    ensures { result ≡ can_run command.now }
+{
+    match command {
+        Command::Grid { f, .. } => *f == 0,
+        Command::Matrix { .. } => true,
+        Command::Print { .. } => true,
+        Command::Discard { .. } => true,
+        Command::Links { .. } => true,
+        Command::Order { .. } => true,
+        Command::Spares { .. } => true,
+        _ => false,
+    }
+}
+
+/// The first line, counted from 1, that the ranks can't run so far: they run `grid` lines without code columns, `matrix`, `print`, `drop`,
+/// `links`, `order` and `spares`.
+pub fn first_unrunnable(script: &Script) -> Option<u32>
+    ensures { result ≡ first_unrunnable (commands_of script.now) }
+{
+    let lines = script.as_slice();
+    for i in 0..script.lines() {
+        if let Some(command) = &lines[i as usize] {
+            if !can_run(command) {
+                return Some(i + 1);
+            }
+        }
+    }
+    None
+}

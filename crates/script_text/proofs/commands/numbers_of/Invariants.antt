@@ -1,7 +1,0 @@
-use Rattle.std.proofs.Common.{◌≡◌, drop}
-use Rattle.script_text.specs.Commands.{numbers_of}
-use Rattle.script_text.proofs.Numbering.{onto}
-use Rattle.script_text.proofs.commands.numbers_of.Given as goal
-
-abbrev pub invariant-loop-word : goal.invariant-loop-word
-invariant-loop-word l = onto l.numbers (numbers_of (drop l.word-index l.words)) ≡ numbers_of l.words

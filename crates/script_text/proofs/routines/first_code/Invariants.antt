@@ -1,6 +1,0 @@
-use Rattle.std.proofs.Common.{◌≡◌, drop}
-use Rattle.script_text.specs.Rules.{first_code}
-use Rattle.script_text.proofs.routines.first_code.Given as goal
-
-abbrev pub invariant-loop-code : goal.invariant-loop-code
-invariant-loop-code l = first_code (drop l.code-index l.rules) ≡ first_code l.rules

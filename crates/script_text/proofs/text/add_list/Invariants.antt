@@ -1,7 +1,0 @@
-use Rattle.std.proofs.Common.{◌≡◌, ◌++◌, map, take}
-use Rattle.std.specs.Prelude.{decimal}
-use Rattle.std.specs.List.{join_with_byte}
-use Rattle.script_text.proofs.text.add_list.Given as goal
-
-abbrev pub invariant-loop-j : goal.invariant-loop-j
-invariant-loop-j l = l.out.items ≡ l.initial.out.items ++ join_with_byte 32 (map decimal (take l.j l.v))

@@ -1,9 +1,0 @@
-use Rattle.std.proofs.Common.{length}
-use Rattle.script_text.proofs.Telling.{AreTold}
-use Rattle.script_text.proofs.told.told_by.Given as goal
-
-abbrev pub invariant-loop-rest : goal.invariant-loop-rest
-invariant-loop-rest l = AreTold l.bytes l.rest l.all
-
-abbrev pub decreases-loop-rest : goal.decreases-loop-rest
-decreases-loop-rest l = length l.rest

@@ -1,0 +1,10 @@
+use Rattle.std.proofs.Common.{◌≡◌, drop}
+use Rattle.std.specs.List.{list_all}
+use Rattle.script_words.specs.MatrixFile.{is_residue_word}
+use Rattle.script_words.proofs.Filling.{row_done}
+use Rattle.script_words.proofs.matrix_file.read_row.Given as goal
+
+abbrev pub invariant-loop-j : goal.invariant-loop-j
+invariant-loop-j l =
+    (l.matrix ≡ row_done l.initial.matrix l.i l.words l.j)
+    × (list_all is_residue_word (drop l.j l.words) ≡ list_all is_residue_word l.words)

@@ -1,0 +1,9 @@
+pub mod Lines
+pub mod Numbers
+pub mod Names
+pub mod Kinds
+pub mod Tables
+pub mod Commands
+pub mod MatrixFile
+pub mod Gives
+pub mod Limits

@@ -1,0 +1,9 @@
+use Rattle.std.proofs.Common.{refl}
+use Rattle.run_data.specs.Matrix.{tabulate, entry}
+use Rattle.world_tests.specs.FedStrips.{matrix, files, work, column_round}
+use Rattle.world_tests.proofs.FedStrips.{may_look-of}
+use Rattle.world_tests.proofs.builders.a_broadcast_up_a_column.Goals as goal
+
+pub number_after-requires : goal.number_after-requires
+unfolding tabulate entry matrix files
+number_after-requires g c = may_look-of column_round c.in_ok-round.round 0 (work 1) c.in_ok-round.ensures refl
