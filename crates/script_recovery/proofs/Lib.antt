@@ -2,4 +2,4 @@ mod GridsAt
 mod StillThere
 mod LiveMost
 mod MarksMost
-mod OwnGrids
+mod FactoredLines

@@ -18,9 +18,8 @@ use Rattle.script_bounds.specs.Steps.{matrix_recovery, list_recovery}
 use Rattle.script_bounds.specs.Bounds.{recovery_made, lives, live_recovery}
 use Rattle.script_bounds.proofs.Limits.{MatrixKept, matrix_kept}
 use Rattle.script_bounds.proofs.Operands.{pgetrf_operands}
-use Rattle.script_lines.proofs.JobAt.{job_for, job-in_script, layout-is, is_matrix_command, matrix_line-is}
+use Rattle.script_lines.proofs.JobAt.{job_for, job-in_script, layout-is}
 use Rattle.run_laws.specs.Traces.{matrix_most, list_most, recovery_of}
-use Rattle.script_recovery.specs.Lying.{LiesOnItsGrid}
 use Rattle.script_recovery.proofs.GridsAt.{LiesAt, LiesAt-from, commands-rise}
 use Rattle.script_recovery.proofs.StillThere.{still-lives}
 
@@ -63,16 +62,6 @@ module _ (script : List (Option Command)) (files : Matrices) (kept : KeepsRules 
         maker_line = k.on.at;
         told = ap (λ o. told_on o (command_on cs o) m n mb nb rsrc csrc) k.on.maker_is ∙ ap (λ o. told_on (Some k.on.at) o m n mb nb rsrc csrc) k.on.grid;
       }
-
-  -- so a matrix lies on the grid that its descriptor numbers
-  matrix_lies : (line : ℕ) (o : Option Command) → command_at (commands_of script) line ≡ o → is_matrix_command o ≡ true → LiesOnItsGrid (setting_of script files) (layout (setting_of script files) line)
-  matrix_lies line (Some (c.Matrix name grid m n mb nb rsrc csrc file)) e h =
-      let o : IsOn line grid m n mb nb rsrc csrc = on line name grid m n mb nb rsrc csrc file e in
-      subst (LiesOnItsGrid (setting_of script files)) (sym o.lies) (record { numbered = o.there; same = sym o.numbered })
-  matrix_lies line o e h = absurd cc
-
-  pub own-grid : (line : ℕ) → is_matrix (setting_of script files) line ≡ true → LiesOnItsGrid (setting_of script files) (layout (setting_of script files) line)
-  own-grid line h = matrix_lies line (command_at (commands_of script) line) refl (matrix_line-is script line h)
 
   matrix_same : (line : ℕ) (name grid : List ℕ) (m n mb nb rsrc csrc : ℕ) (file : List ℕ) → command_at (commands_of script) line ≡ Some (c.Matrix name grid m n mb nb rsrc csrc file)
       → matrix_most (layout (setting_of script files) line) ≡ recovery_made (commands_of script) line (c.Matrix name grid m n mb nb rsrc csrc file)

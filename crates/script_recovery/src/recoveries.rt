@@ -4,33 +4,18 @@ ghost use Rattle.std.specs.Prelude.{◌≡◌, ℕ, ◌<◌, ◌≤◌, true, Li
 ghost use Rattle.run_data.specs.declared.command.Command.{Command};
 ghost use Rattle.run_data.specs.Script.{commands_of};
 ghost use Rattle.rank_machine.specs.declared.record.Rec.{Rec};
-ghost use Rattle.rank_machine.specs.Setting.{factored, is_matrix, layout};
+ghost use Rattle.rank_machine.specs.Setting.{factored, is_matrix};
 ghost use Rattle.rank_machine.specs.Scripts.{Matrices, setting_of};
 ghost use Rattle.rank_machine.specs.Effect.{state_after};
 ghost use Rattle.rank_machine.specs.Legal.{IsLegal};
-ghost use Rattle.script_lines.specs.Sound.{IsSound};
-ghost use Rattle.round_laws.specs.Turns.{IsGridOf};
 ghost use Rattle.run_laws.specs.Traces.{recovery_under};
 ghost use Rattle.script_bounds.specs.Accepted.{KeepsRules};
 ghost use Rattle.script_bounds.specs.Bounds.{recovery_steps};
-ghost use Rattle.script_recovery.specs.Lying.{LiesOnItsGrid};
 
 /// Under the last mark of a legal journal a recovery takes at most as many records as the bound of the script counts for one.
 pub fn recoveries_keep_to_the_bound()
     ensures { (script : List (Option Command)) (files : Matrices) (journal : List Rec) → KeepsRules script → IsLegal (setting_of script files) journal →
         recovery_under (setting_of script files) (state_after (setting_of script files) journal).mark ≤ recovery_steps (commands_of script) }
-{}
-
-/// A matrix of a script that keeps the rules lies on the grid that its descriptor numbers.
-pub fn matrices_lie_on_their_grids()
-    ensures { (script : List (Option Command)) (files : Matrices) (line : ℕ) → KeepsRules script → is_matrix (setting_of script files) line ≡ true →
-        LiesOnItsGrid (setting_of script files) (layout (setting_of script files) line) }
-{}
-
-/// So it lies on a grid of the run, of which each rank is its own.
-pub fn matrices_lie_on_grids_of_the_run()
-    ensures { (script : List (Option Command)) (files : Matrices) (p line : ℕ) → KeepsRules script → IsSound p (setting_of script files) → is_matrix (setting_of script files) line ≡ true →
-        IsGridOf (setting_of script files) (layout (setting_of script files) line).grid }
 {}
 
 /// What a line factors is a matrix.
