@@ -1,6 +1,6 @@
 -- A world after a round.
 use Rattle.std.proofs.Common.{◌≡◌, ◌-◌, ℕ, suc, Bool, true, Option, List, [], ◌∷◌, ◌++◌, length, map, take, slice_get, refl, sym, ap, subst, ◌∙◌, All, arith}
-use Rattle.std.proofs.lemmas.List.{append-nil, append_assoc}
+use Rattle.std.proofs.lemmas.List.{append-nil, append_assoc, take-map}
 use Rattle.std.proofs.lemmas.List.Elements.{All-take}
 use Rattle.field_core.specs.FieldLaws.{IsField}
 use Rattle.run_data.specs.declared.command.Command.{Command}
@@ -9,7 +9,7 @@ use Rattle.rank_run.specs.declared.round.Event.{Event}
 use Rattle.rank_run.specs.declared.run.Ran.{Ran}
 use Rattle.rank_run.specs.declared.run.Ran.TheVariants.{Whole, Hit}
 use Rattle.rank_run.specs.Action.{Action, Works, Sends, Receives}
-use Rattle.rank_run.specs.Machine.{Machine, machine}
+use Rattle.rank_run.specs.Machine.{Machine, machine, after_steps}
 use Rattle.rank_run.specs.Notary.{notary_after, NotDue}
 use Rattle.rank_run.specs.Parts.{IsWithin}
 use Rattle.rank_run.specs.Rounds.{after_events, MayRun}
@@ -28,7 +28,7 @@ use Rattle.rank_machine.specs.Effect.{replay}
 use Rattle.rank_machine.specs.Legal.{IsLegalFrom}
 use Rattle.rank_machine.specs.Losses.{is_numbered}
 use Rattle.rank_slots.specs.Rank.{Rank, memory, base_in}
-use Rattle.rank_slots.specs.Stands.{rec_of, records_of, AgreesOn, Stands, AreResidues}
+use Rattle.rank_slots.specs.Stands.{rec_of, records_of, IsStepWithin, AgreesOn, Stands, AreResidues}
 use Rattle.rank_slots.proofs.Steps.{steps, all_marks_stay, events_marks_stay, both_marks, same_state}
 use Rattle.rank_slots.proofs.StepWords.{residues_steps}
 use Rattle.rank_slots.proofs.ListOrder.{may_run, list_stands, noted_legal, parts_within}
@@ -40,13 +40,13 @@ use Rattle.block_world.specs.World.{WorldView, setting_in, state_of, is_due, not
 use Rattle.block_world.specs.Replay.{view_of, IsReplay}
 use Rattle.block_world.specs.Rounds.{IsRoundOf, NoneDue}
 use Rattle.block_world.specs.Rounds as rounds
-use Rattle.block_world.proofs.FirstEvents.{legal_first, same_tiles}
+use Rattle.block_world.proofs.FirstEvents.{legal_first, may_first, same_tiles}
 use Rattle.block_world.proofs.InPlace.{in_place-push}
 use Rattle.block_world.proofs.Journals.{replay-append, IsLegalFrom-append}
 use Rattle.block_world.proofs.Replayed.{agrees, below, flags_stay}
 
 -- a world with these records in its journal
-abbrev more : WorldView → List Rec → WorldView
+abbrev pub more : WorldView → List Rec → WorldView
 more w rs = record w { journal = w.journal ++ rs; room = w.room - length rs }
 
 none_less : (a : ℕ) → a ≡ a - 0
@@ -55,7 +55,7 @@ none_less a = omega arith
 one_less : (a n : ℕ) → (a - 1) - n ≡ a - suc n
 one_less a n = omega arith
 
-noted_all-is : (w : WorldView) (rs : List Rec) → noted_all w rs ≡ more w rs
+pub noted_all-is : (w : WorldView) (rs : List Rec) → noted_all w rs ≡ more w rs
 noted_all-is w [] = λ i. record w { journal = sym (append-nil w.journal) i; room = none_less w.room i }
 noted_all-is w (x ∷ rs) = noted_all-is (noted w x) rs ∙ (λ i. record w { journal = append_assoc w.journal (x ∷ []) rs i; room = one_less w.room (length rs) i })
 
@@ -172,17 +172,26 @@ module _ (p : ℕ) (script : List (Option Command)) (files : Matrices) (k : Log)
         (e.0, state_now ∙ same_state s h.table x' (replay s st (map rec_of ts)) (replay s st (records_of es)) stands_now (subst (λ y. Stands s h.table y (replay s st (records_of es))) (sym is) in_order) marks)
     ends Hit e = (e.0, sym (ap (λ (ls : List Loss). is_due_in ls k'.journal) (losses_now ∙ h.losses_are) ∙ ap is_due view_now) ∙ e.1)
 
+    -- the state after the first n steps
+    stands_first : (n : ℕ) → Stands (setting_in (view_of script files k)) h.table (after_steps (memory p) x (take n ts)) (replay (setting_in (view_of script files k)) (state_of (view_of script files k)) (take n (map rec_of ts)))
+    stands_first n =
+        let s = setting_in (view_of script files k) in
+        let st = state_of (view_of script files k) in
+        let within : All (IsStepWithin (ranks s)) (take n ts) = All-take (IsStepWithin (ranks s)) n ts (parts_within (ranks s) es ts a.ranks ran.parts) in
+        subst (λ l. Stands s h.table (after_steps (memory p) x (take n ts)) (replay s st l)) (sym (take-map rec_of n ts))
+        (steps s p h.table x st (take n ts) on h.stands within (may_first (memory p) x n ts ran.allowed))
+
     -- what the first events of the round leave a rank to is what their records, in list order, say
-    held_first : (rank n : ℕ) → slice_get x'.mems rank ≡ slice_get (after_events (memory p) x.mems (take n es)) rank → (slot : Slot) → (state_of (more (view_of script files k) (map rec_of ts))).tiles rank slot ≡ (replay (setting_in (view_of script files k)) (state_of (view_of script files k)) (records_of (take n es))).tiles rank slot
-    held_first rank n same slot =
+    held_first : (n rank j : ℕ) → slice_get (after_steps (memory p) x (take n ts)).mems rank ≡ slice_get (after_events (memory p) x.mems (take j es)) rank → (slot : Slot) → (replay (setting_in (view_of script files k)) (state_of (view_of script files k)) (take n (map rec_of ts))).tiles rank slot ≡ (replay (setting_in (view_of script files k)) (state_of (view_of script files k)) (records_of (take j es))).tiles rank slot
+    held_first n rank j same slot =
         let s = setting_in (view_of script files k) in
         let st = state_of (view_of script files k) in
         let sides = x.links.ranks in
         let in_order =
-        list_stands s p h.table sides x.links.capacity on (below p script files field h.sound) x.mems st (take n es) (at_first a) (words_first a) (legal_first s st n es a.legal)
-        (All-take (IsWithin sides) n es (ranks_first a)) in
-        ap (λ (z : State). z.tiles rank slot) state_now
-        ∙ same_tiles s h.table x' (machine (after_events (memory p) x.mems (take n es)) (empty_traffic sides x.links.capacity)) (replay s st (map rec_of ts)) (replay s st (records_of (take n es))) stands_now in_order rank same slot
+        list_stands s p h.table sides x.links.capacity on (below p script files field h.sound) x.mems st (take j es) (at_first a) (words_first a) (legal_first s st j es a.legal)
+        (All-take (IsWithin sides) j es (ranks_first a)) in
+        same_tiles s h.table (after_steps (memory p) x (take n ts)) (machine (after_events (memory p) x.mems (take j es)) (empty_traffic sides x.links.capacity)) (replay s st (take n (map rec_of ts))) (replay s st (records_of (take j es)))
+        (stands_first n) in_order rank same slot
 
     -- what the round did
     pub round_now : IsRoundOf (view_of script files k) (view_of script files k') es order order' ended ts
@@ -197,6 +206,6 @@ module _ (p : ℕ) (script : List (Option Command)) (files : Matrices) (k : Log)
               ap (λ z. base z rank slot) state_now
               ∙ base_kept s h.table x x' (state_of (view_of script files k)) (replay s (state_of (view_of script files k)) (map rec_of ts)) (sym ran.same_base) h.stands stands_now rank slot;
           none_due = all_none_due script files k ts h.losses_are ran.not_due;
-          prefixes = λ rank. let z = ran.prefixes rank in (z.0, held_first rank z.0 z.2);
+          prefixes = λ n rank. let z = ran.prefixes n rank in (z.0, held_first n rank z.0 z.2);
           end = ends ended ran.end;
         })

@@ -41,8 +41,8 @@ pub record IsRoundOf (w w' : WorldView) (es : List (Event Rank Kernel Piece Tile
   pub same_base : (rank : ℕ) (slot : Slot) → base (state_of w') rank slot ≡ base (state_of w) rank slot
   -- no loss was due before a step that was taken
   pub none_due : NoneDue w (map rec_of noted)
-  -- each rank holds what some first events of the round give it, one after the other in list order
-  pub prefixes : (rank : ℕ) → (k : ℕ) × ((slot : Slot) → (state_of w').tiles rank slot ≡ (replay (setting_in w) (state_of w) (records_of (take k es))).tiles rank slot)
+  -- after the first n of these records, for any n, each rank holds what some first events of the round give it, one after the other in list order
+  pub prefixes : (n rank : ℕ) → (k : ℕ) × ((slot : Slot) → (replay (setting_in w) (state_of w) (take n (map rec_of noted))).tiles rank slot ≡ (replay (setting_in w) (state_of w) (records_of (take k es))).tiles rank slot)
   pub end : EndsAs ended w w' es noted
 
 -- n words are those of the slots that a rank holds, each once, and of what was saved of them

@@ -257,7 +257,8 @@ impl<'a, K: Field> World<'a, K> {
 
     /// Runs a round on empty links, under an order: each step adds its record. Taken in the order of the list the records of the round's
     /// events are legal here, and what they lead to is the state after a whole round. It is hit exactly where a loss was due before
-    /// one of its steps; then too each rank holds what some first events of the round give it, one after the other in list order.
+    /// one of its steps. After any number of the steps each rank holds what some first events of the round give it, one after the
+    /// other in list order.
     /// After an error the world is one that has just been opened, without room.
     pub fn run(&mut self, round: &Round<RankMem<K>>, order: &mut Order) -> Result<Ran, AllocError>
         requires links { (from to : ℕ) → (state_of self.old).links from to ≡ [] }

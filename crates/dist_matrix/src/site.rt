@@ -7,7 +7,7 @@ ghost use Rattle.rank_machine.specs.Setting.{grid_numbered, layout, factored};
 ghost use Rattle.rank_machine.specs.Scripts.{grids_from};
 ghost use Rattle.rank_machine.specs.Effect as effect;
 ghost use Rattle.script_lines.specs.Layouts as lines;
-ghost use Rattle.script_lines.specs.Lines.{setting_on, AreSound};
+ghost use Rattle.script_lines.specs.Lines.{setting_on, AreSound, IsTableOf};
 ghost use Rattle.dist_matrix.specs.Site.{shape_of, desc_under, list_under, factoring_under};
 
 use array_desc::Desc;
@@ -88,6 +88,23 @@ impl<'a> Site<'a> {
         ensures few { result ≤ 64 }
     {
         self.grids.len() as u32
+    }
+
+    /// The grids of the script, by their numbers: at most 64.
+    pub fn grid_list(&self) -> &[Grid]
+        ensures value { result.now ≡ (setting_in self.now).grids }
+        ensures within { lines.AreGrids result.now }
+        ensures few { length result.now ≤ 64 }
+    {
+        &self.grids
+    }
+
+    /// The table of the script's lines.
+    pub fn table(&self) -> &[Line]
+        ensures value { IsTableOf (setting_in self.now).jobs result.now }
+        ensures sound { AreSound result.now }
+    {
+        &self.table
     }
 
     /// How many lines the script has, those without words too.

@@ -18,5 +18,6 @@ mod Examples
 mod WholeExchanges
 mod WholeSteps
 mod WholeLoops
+mod WholeFits
 mod WholeCarried
 mod ByPanels

@@ -96,14 +96,8 @@ pub fn add_next_cut(out: &mut Vec<u8>, cut: Cut) -> Result<(), NoMemory>
 {
     match cut {
         Cut::Whole => out.extend_from_slice(b" whole"),
-        Cut::Upper(block) => {
-            out.extend_from_slice(b" upper")?;
-            add_next_number(out, block)
-        }
-        Cut::Lower(block) => {
-            out.extend_from_slice(b" lower")?;
-            add_next_number(out, block)
-        }
+        Cut::Upper(block) => add_head(out, b" upper", block),
+        Cut::Lower(block) => add_head(out, b" lower", block),
     }
 }
 

@@ -5,7 +5,7 @@ use Rattle.run_data.specs.declared.matrix.Part.{Part}
 use Rattle.run_data.specs.Matrix.{Matrix, cols, entry, IsShaped, AreWords, tabulate}
 use Rattle.run_data.specs.Parts.{IsWithin, in_part, patched, with_part}
 use Rattle.run_data.proofs.Matrices.{tabulate-same, entry-tabulate}
-use Rattle.run_data.proofs.Fills.{filled, is_passed_down, with_filled, fill_starts, fill_ends, AreWords-with_done, rows-with_done, cols-with_done}
+use Rattle.run_data.proofs.Fills.{filled, is_passed_down, with_done, with_filled, fill_starts, fill_ends, AreWords-with_done, rows-with_done, cols-with_done}
 
 -- column j of a part
 abbrev pub column_part : Part → ℕ → Part
@@ -59,6 +59,25 @@ columns_end a b at f j e h = e ∙ fill_ends a at f at.r0 j h
 -- words stay words
 pub AreWords-columns : (p : ℕ) (a b : Matrix) (at : Part) (f : ℕ → ℕ → ℕ) (j : ℕ) → b ≡ with_columns a at f j → 0 < p → AreWords p a → ((r c : ℕ) → f r c < p) → AreWords p b
 AreWords-columns p a b at f j e pos_p words small = subst (AreWords p) (sym e) (AreWords-with_done p a at (is_passed_down at.r0 j) f pos_p words small)
+
+-- ---- what a loop over the words of a part reads and writes is in the matrix
+
+pub filled_row : (a b : Matrix) (at : Part) (done : ℕ → ℕ → Bool) (f : ℕ → ℕ → ℕ) (r : ℕ) → b ≡ with_done a at done f → r < a.rows → r < b.rows
+filled_row a b at done f r e h = subst (λ n. r < n) (sym (ap (λ m. m.rows) e ∙ rows-with_done a at done f)) h
+
+pub filled_column : (a b : Matrix) (at : Part) (done : ℕ → ℕ → Bool) (f : ℕ → ℕ → ℕ) (c : ℕ) → b ≡ with_done a at done f → c < cols a → c < cols b
+filled_column a b at done f c e h = subst (λ n. c < n) (sym (ap cols e ∙ cols-with_done a at done f)) h
+
+pub placed_within : (a : Matrix) (part : Part) (r0 r1 c0 c1 : ℕ) → part ≡ record { r0 = r0; r1 = r1; c0 = c0; c1 = c1 } → r0 ≤ r1 → r1 ≤ a.rows → c0 ≤ c1 → c1 ≤ cols a → IsWithin part a
+placed_within a part r0 r1 c0 c1 e h1 h2 h3 h4 = subst (λ at. IsWithin at a) (sym e) (record { rows_ordered = h1; rows_end = h2; columns_ordered = h3; columns_end = h4 })
+
+pub filled_within : (a b : Matrix) (at : Part) (done : ℕ → ℕ → Bool) (f : ℕ → ℕ → ℕ) (part : Part) → b ≡ with_done a at done f → IsWithin part a → IsWithin part b
+filled_within a b at done f part e h = record {
+  rows_ordered = h.rows_ordered;
+  rows_end = subst (λ n. part.r1 ≤ n) (sym (ap (λ m. m.rows) e ∙ rows-with_done a at done f)) h.rows_end;
+  columns_ordered = h.columns_ordered;
+  columns_end = subst (λ n. part.c1 ≤ n) (sym (ap cols e ∙ cols-with_done a at done f)) h.columns_end;
+}
 
 beside_column : (at : Part) (done : ℕ → ℕ → Bool) (f h : ℕ → ℕ → ℕ) (r c : ℕ) → at.c1 ≡ at.c0 + 1 → c ≢ at.c0 → filled at done f h r c ≡ h r c
 unfolding filled

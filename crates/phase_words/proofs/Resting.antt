@@ -56,7 +56,7 @@ one_allowed : (slot : Slot) (n : ℕ) → n ≤ allowed ((slot, n) ∷ []) slot
 one_allowed slot n = let a : (if same_slot slot slot then n else 0) ≡ n = ap (λ b. if b then n else 0) (same_slot-refl slot) in omega (arith, a)
 
 -- ---- sizes
-strip_size : (d : Layout) (row : ℕ) (t : Option Tile) → is_strip_of d row t ≡ true → size_of t ≡ strip_rows d row * d.desc.nb
+pub strip_size : (d : Layout) (row : ℕ) (t : Option Tile) → is_strip_of d row t ≡ true → size_of t ≡ strip_rows d row * d.desc.nb
 strip_size d row None h = absurd (true≢false (sym h))
 strip_size d row (Some (Index ns)) h = absurd (true≢false (sym h))
 strip_size d row (Some (Words m)) h =

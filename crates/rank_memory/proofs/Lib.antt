@@ -1,3 +1,4 @@
+pub mod Areas
 pub mod Changes
 pub mod RowLaws
 pub mod TakenOut

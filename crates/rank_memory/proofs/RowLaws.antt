@@ -23,6 +23,14 @@ global-rises k l nb proc src procs b s p h =
     let y : global k nb proc src procs < global l nb proc src procs + 1 = global-lt k (global l nb proc src procs + 1) nb proc src procs b s p (omega (arith, x, h)) in
     omega (arith, y)
 
+-- one row more below a limit
+pub one_more_below : (f : ℕ → ℕ) (count limit : ℕ) → ((i : ℕ) → i < count → f i < limit) → f count < limit → (i : ℕ) → i < count + 1 → f i < limit
+one_more_below f count limit below here i lt =
+    ⊎_elim
+    (λ (h : i < count). below i h)
+    (λ (h : count ≤ i). let e : i ≡ count = omega arith in subst (λ n. f n < limit) (sym e) here)
+    (cases_lt i count)
+
 -- rows before an end, by their global rows
 pub before_end : (i e g c : ℕ) → (i < e → g < c + 1) → (e ≤ i → c + 1 ≤ g) → nat_lt i e ≡ nat_le g c
 before_end i e g c below above =
@@ -73,6 +81,9 @@ filled_within a at f i j within = record {
   columns_ordered = within.columns_ordered;
   columns_end = subst (λ n. at.c1 ≤ n) (sym (cols-with_done a at (is_passed_down i j) f)) within.columns_end;
 }
+
+pub column_still_within : (a b : Matrix) (at : Part) (j : ℕ) (f : ℕ → ℕ → ℕ) (i : ℕ) → b ≡ with_filled a (column_in at j) f i j → IsWithin at a → j < at.c1 → IsWithin (column_in at j) b
+column_still_within a b at j f i is within h = subst (IsWithin (column_in at j)) (sym is) (filled_within a (column_in at j) f i j (column_within at a j within h))
 
 -- a word of a column that is not filled yet
 not_passed : (at : Part) (f h : ℕ → ℕ → ℕ) (r c : ℕ) → at.r0 ≤ r → filled at (is_passed_down at.r0 c) f h r c ≡ h r c

@@ -10,7 +10,7 @@ ghost use Rattle.rank_machine.specs.Effect.{area};
 ghost use Rattle.rank_memory.specs.Places.{layout_of, column_in, IsSound};
 ghost use Rattle.rank_slots.specs.Shapes.{is_in_triangle};
 
-use crate::pieces::{area_of, part_in};
+use crate::pieces::{area_of, part_in, word_in};
 use crate::placed::{Placed, rows_below};
 use field_core::Field;
 use local_blas::eliminate;
@@ -62,9 +62,10 @@ fn add_column<K: Field>(
     ensures { dst.new ≡ with_part dst.old (column_in at j) (λ i k. if (if upper then nat_lt i end else nat_le end i) then (entry dst.old i k + a * part_entry src.now sp (i - at.r0) (k - at.c0)) % K.MODULUS else entry dst.old i k) }
 {
     let _shaped = dst.rows();
+    let column = j - at.c0;
     for i in at.r0..at.r1 {
         let word = dst.get(i, j);
-        let other = src.get(sp.r0 + (i - at.r0), sp.c0 + (j - at.c0));
+        let other = word_in(src, sp, i - at.r0, column);
         dst.set(i, j, gain::<K>(word, a, other, is_on_side(upper, i, end)));
     }
 }

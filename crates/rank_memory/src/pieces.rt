@@ -26,6 +26,16 @@ pub fn area_of(x: Piece, m: &Mat) -> Part
     }
 }
 
+/// A word of a part of a matrix.
+pub fn word_in(m: &Mat, at: Part, i: u32, j: u32) -> u32
+    requires within { IsWithin at m.now }
+    requires row { i < at.r1 - at.r0 }
+    requires column { j < at.c1 - at.c0 }
+    ensures { result ≡ part_entry m.now at i j }
+{
+    m.get(at.r0 + i, at.c0 + j)
+}
+
 /// A piece of a matrix, as a matrix of its own.
 #[tactic(auto, using(rank_slots::proofs::PieceLaws::whole_is_part))]
 pub fn part_in(alloc: Global, x: Piece, m: &Mat) -> Result<Mat, AllocError>

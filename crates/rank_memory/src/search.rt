@@ -9,6 +9,7 @@ ghost use Rattle.rank_machine.specs.Effect.{words_of, least_of, number_if, is_ze
 ghost use Rattle.rank_memory.specs.Places.{layout_of, IsSound};
 ghost use Rattle.rank_slots.specs.Cells.{tiles_in};
 
+use crate::pieces::word_in;
 use crate::placed::{Placed, global_of, row_on};
 use array_desc::{local, owner};
 use rank_machine::{Slot, SlotKind, Tile};
@@ -42,7 +43,7 @@ pub fn first_row(m: &Mat, at: Part, j: u32, placed: &Placed, rank: u32, above: u
     let row = row_on(placed, rank);
     let mut best = 2048;
     for i in 0..at.r1 - at.r0 {
-        let word = m.get(at.r0 + i, at.c0 + j);
+        let word = word_in(m, at, i, j);
         best = less_row(best, word, global_of(placed, row, at.r0 + i), above);
     }
     best as u32

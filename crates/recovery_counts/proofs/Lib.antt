@@ -1,5 +1,5 @@
-mod StripCounts
-mod LineCounts
-mod Judged
-mod InTime
-mod TableJobs
+pub mod StripCounts
+pub mod LineCounts
+pub mod Judged
+pub mod InTime
+pub mod TableJobs

@@ -9,3 +9,4 @@ pub mod Marks
 pub mod LawFrame
 pub mod CodeLaws
 pub mod Scripts
+pub mod Words

@@ -4,14 +4,7 @@ use Rattle.std.proofs.lemmas.Nat.{mul-le}
 use Rattle.std.proofs.lemmas.Bool.{cases_lt}
 use Rattle.array_desc.specs.Maps.{groups}
 use Rattle.array_desc.proofs.GroupLaws.{groups-reached}
-use Rattle.script_bounds.specs.Bounds.{matrix_records, print_records}
-
-pub matrix_records-few : (p q f g : ℕ) → p ≤ 16 → q ≤ 16 → f ≤ 4 → g ≤ 1024 → matrix_records p q f g ≤ 4000000
-matrix_records-few p q f g hp hq hf hg =
-    let strips : p * g ≤ 16 * 1024 = mul-le p g 16 1024 hp hg in
-    let code : f * (3 * q + 1) ≤ 4 * 49 = mul-le f (3 * q + 1) 4 49 hf (omega arith) in
-    let all : p * g * (q + f * (3 * q + 1)) ≤ 16 * 1024 * 212 = mul-le (p * g) (q + f * (3 * q + 1)) (16 * 1024) 212 strips (omega (arith, code)) in
-    omega (arith, all)
+use Rattle.script_bounds.specs.Bounds.{print_records}
 
 pub print_records-few : (p q g : ℕ) → p ≤ 16 → q ≤ 16 → g ≤ 1024 → print_records p q g ≤ 4000000
 print_records-few p q g hp hq hg =

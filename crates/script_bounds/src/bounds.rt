@@ -1,5 +1,5 @@
 //! How many records a script makes.
-ghost use Rattle.std.specs.Prelude.{◌≡◌, ◌≤◌, ◌<◌, ◌^◌, suc, length, slice_get, Some};
+ghost use Rattle.std.specs.Prelude.{◌≡◌, ◌+◌, ◌*◌, ◌≤◌, ◌<◌, ◌^◌, suc, length, slice_get, Some};
 ghost use Rattle.array_desc.specs.Maps.{groups};
 ghost use Rattle.run_data.specs.Script.{commands_of, maker};
 ghost use Rattle.script_bounds.specs.Accepted.{KeepsRules};
@@ -169,6 +169,26 @@ fn print_on(script: &Script, line: u32, grid: &[u8], n: u32, nb: u32) -> u64
     }
 }
 
+// The data strips of one process column of each group.
+fn data_strips(p: u64, groups: u64) -> u64
+    requires rows { p ≤ 16 }
+    requires few { groups ≤ 1024 }
+    ensures value { result ≡ p * groups }
+    ensures fits { result ≤ 16384 }
+{
+    p * groups
+}
+
+// The records of a row of strips: each data strip is fed, and each code strip is made of them.
+fn records_by_strip(q: u64, f: u64) -> u64
+    requires columns { q ≤ 16 }
+    requires code_columns { f ≤ 4 }
+    ensures value { result ≡ q + f * (3 * q + 1) }
+    ensures few { result ≤ 212 }
+{
+    q + f * (3 * q + 1)
+}
+
 fn matrix_records(p: u64, q: u64, f: u64, groups: u64) -> u64
     requires rows { p ≤ 16 }
     requires columns { q ≤ 16 }
@@ -177,7 +197,7 @@ fn matrix_records(p: u64, q: u64, f: u64, groups: u64) -> u64
     ensures value { result ≡ matrix_records p q f groups }
     ensures few { result ≤ 4000000 }
 {
-    p * groups * (q + f * (3 * q + 1)) + 1
+    data_strips(p, groups) * records_by_strip(q, f) + 1
 }
 
 fn print_records(p: u64, q: u64, groups: u64) -> u64

@@ -217,7 +217,7 @@ pub fn pgetrs_steps(n: u32, a: Layout, b: Layout) -> Steps
     let solve = sweep(a, ceil_div(n, a.mb));
     Steps {
         phase: test.max(exchange.max(solve)),
-        count: test + groups_in(b) * (exchange + 2 * solve),
+        count: test + all_of(groups_in(b), exchange + 2 * solve),
     }
 }
 

@@ -1,5 +1,5 @@
-mod GridsAt
-mod StillThere
-mod LiveMost
-mod MarksMost
-mod FactoredLines
+pub mod GridsAt
+pub mod StillThere
+pub mod LiveMost
+pub mod MarksMost
+pub mod FactoredLines

@@ -1,5 +1,5 @@
 //! The argument rules of the routines.
-ghost use Rattle.std.specs.Prelude.{◌≡◌, not};
+ghost use Rattle.std.specs.Prelude.{◌≡◌, ◌==◌, ◌&&◌, ◌||◌, codes, not};
 ghost use Rattle.std.specs.Str.{bytes_eq};
 ghost use Rattle.run_data.specs.Script.{commands_of};
 ghost use Rattle.script_words.specs.Tables.{first_code};
@@ -138,6 +138,20 @@ fn pgemm_code(
     }
 }
 
+// Whether a word names the lower or the upper triangle.
+fn is_triangle(word: &[u8]) -> bool
+    ensures { result ≡ (is_option (codes "L") (codes "l") word.now || is_option (codes "U") (codes "u") word.now) }
+{
+    is_option(b"L", b"l", word) || is_option(b"U", b"u", word)
+}
+
+// Whether a word says how a diagonal counts: as it stands, or as 1.
+fn is_diagonal(word: &[u8]) -> bool
+    ensures { result ≡ (is_option (codes "N") (codes "n") word.now || is_option (codes "U") (codes "u") word.now) }
+{
+    is_option(b"N", b"n", word) || is_option(b"U", b"u", word)
+}
+
 // The first broken rule of PTRSM.
 fn ptrsm_code(
     side: &[u8],
@@ -159,15 +173,9 @@ fn ptrsm_code(
 {
     first_code(&[
         (-1, is_option(b"L", b"l", side)),
-        (
-            -2,
-            is_option(b"L", b"l", uplo) || is_option(b"U", b"u", uplo),
-        ),
+        (-2, is_triangle(uplo)),
         (-3, is_option(b"N", b"n", transa)),
-        (
-            -4,
-            is_option(b"N", b"n", diag) || is_option(b"U", b"u", diag),
-        ),
+        (-4, is_diagonal(diag)),
         (-5, m == a.m),
         (-6, n == b.n),
         (-7, alpha <= MAX_SCALAR),
@@ -198,6 +206,13 @@ fn pgetrf_code(m: u32, n: u32, ia: u32, ja: u32, a: Layout) -> Option<i32>
     ])
 }
 
+// Whether the matrix `v`, whose factorization made a pivot list, has n rows and n columns on the grid of another.
+fn is_factored(n: u32, v: Layout, a: Layout) -> bool
+    ensures { result ≡ ((v.m == n) && (v.n == n) && (v.grid == a.grid)) }
+{
+    v.m == n && v.n == n && v.grid == a.grid
+}
+
 // The first broken rule of PGETRS; `v` is the matrix whose factorization made the pivot list.
 fn pgetrs_code(
     trans: &[u8],
@@ -222,7 +237,7 @@ fn pgetrs_code(
         (-6, ja == 1),
         (-704, a.n == n),
         (-706, a.nb == a.mb),
-        (-8, v.m == n && v.n == n && v.grid == a.grid),
+        (-8, is_factored(n, v, a)),
         (-9, apart),
         (-10, ib == 1),
         (-11, jb == 1),

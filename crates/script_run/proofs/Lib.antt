@@ -1,5 +1,6 @@
 mod Noting
 mod Placed
+mod PrintedOn
 mod NoLosses
 pub mod AcceptedCommands
 pub mod AcceptedGrids

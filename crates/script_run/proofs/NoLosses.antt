@@ -1,5 +1,5 @@
 -- A runnable script has no losses.
-use Rattle.std.proofs.Common.{◌≡◌, List, [], Option, ap, ◌∙◌}
+use Rattle.std.proofs.Common.{◌≡◌, List, Option, ap, ◌∙◌}
 use Rattle.run_data.specs.declared.command.Command.{Command}
 use Rattle.rank_machine.specs.Scripts.{Matrices, setting_of}
 use Rattle.block_world.specs.World.{WorldView}

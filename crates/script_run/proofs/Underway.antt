@@ -1,10 +1,10 @@
 -- The run of a script, one line after another.
-use Rattle.std.proofs.Common.{◌≡◌, ℕ, ◌<◌, Bool, true, false, cond, List, [], ◌∷◌, ◌++◌, Option, Some, None, refl, sym, ap, subst, ◌∙◌, append_assoc}
-use Rattle.std.proofs.lemmas.List.{append-nil}
+use Rattle.std.proofs.Common.{◌≡◌, ℕ, suc, ◌<◌, ◌≤◌, Bool, true, false, cond, List, [], ◌∷◌, ◌++◌, length, drop, Option, Some, None, refl, sym, ap, subst, ◌∙◌, append_assoc}
+use Rattle.std.proofs.lemmas.List.{append-nil, drop_all}
 use Rattle.std.proofs.lemmas.Bool.{lt-ltb}
 use Rattle.run_data.specs.declared.command.Command.{Command}
 use Rattle.run_data.specs.declared.command.Command.TheVariants as c
-use Rattle.run_data.specs.Script.{Numbered, commands_of, makes_records}
+use Rattle.run_data.specs.Script.{Numbered, commands_from, commands_of, makes_records}
 use Rattle.rank_machine.specs.declared.slot.SlotKind.TheVariants.{Data}
 use Rattle.rank_machine.specs.declared.record.Rec.{Rec}
 use Rattle.rank_machine.specs.declared.record.Rec.TheVariants as r
@@ -171,6 +171,11 @@ underway-first script files w text ready same empty none = record {
   plain = ready.commands;
   there = there-all script;
 }
+
+pub underway-ends : (script : List (Option Command)) (files : Matrices) (w : WorldView) (text : List ℕ) (i : ℕ) (lines : List (Option Command)) → length lines ≤ i
+    → Underway script files (commands_from (suc i) (drop i lines)) w text → Underway script files [] w text
+underway-ends script files w text i lines past way =
+    let none : commands_from (suc i) (drop i lines) ≡ [] = ap (commands_from (suc i)) (drop_all i lines past) in subst (λ (left : List Numbered). Underway script files left w text) none way
 
 pub underway-text : (script : List (Option Command)) (files : Matrices) (w : WorldView) (text : List ℕ) → Underway script files [] w text → text ≡ run_text (commands_of script) (file_of files) (commands_of script)
 underway-text script files w text way = sym (append-nil text) ∙ way.said

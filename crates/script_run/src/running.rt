@@ -53,6 +53,13 @@ fn run_matrix(
     make_matrix(alloc, world, m, layout, line)
 }
 
+// The line of the matrix that a `print` line names.
+fn printed_on(script: &Script, line: u32) -> u32
+    ensures { result ≡ printed_on script.now line }
+{
+    script.operand(line, 1).unwrap_or(0)
+}
+
 // A `print` line.
 fn run_print(
     alloc: Global,
@@ -73,7 +80,7 @@ fn run_print(
     ensures noted { OnOk result (world.new ≡ noted_all world.old (takes (strip_places (printed_on script.now line) (layout_in script.now (printed_on script.now line))) ++ Commit (end_mark line) false ∷ [])) }
     ensures text { OnOk result (out.new.items ≡ out.old.items ++ matrix_text name.now (file_of world.old.files (printed_on script.now line))) }
 {
-    let what = script.operand(line, 1).unwrap_or(0);
+    let what = printed_on(script, line);
     let layout = layout_of(grids, script, what);
     let Ok(name) = str::from_utf8(name) else {
         unreachable!();
@@ -111,6 +118,31 @@ fn run_line(
     }
 }
 
+// The lines of a script, one after another, in a world that was opened for it.
+fn run_lines(
+    alloc: Global,
+    world: &mut World<'_, F65537>,
+    script: &Script,
+    files: &Files,
+    out: &mut Vec<u8>,
+) -> Result<(), AllocError>
+    requires runnable { IsRunnable script.now files.now }
+    requires same { IsOf script.now files.now world.old }
+    requires opened { world.old.journal ≡ [] }
+    requires empty { out.old.items ≡ [] }
+    ensures text { OnOk result (out.new.items ≡ run_text (commands_of script.now) (file_of files.now) (commands_of script.now)) }
+    ensures journal { OnOk result (world.new.journal ≡ script_records script.now files.now) }
+{
+    let lines = script.as_slice();
+    let grids = grids_of(alloc, script)?;
+    for i in 0..script.lines() {
+        if let Some(command) = &lines[i as usize] {
+            run_line(alloc, world, script, files, &grids, i + 1, command, out)?;
+        }
+    }
+    Ok(())
+}
+
 /// Runs a script on the ranks.
 ///
 /// The printed text is that of its prints, each of the matrix that it names, and the journal is that of its records. It fails
@@ -120,24 +152,9 @@ pub fn run(alloc: Global, script: &Script, files: &Files, room: u32) -> Result<R
     ensures out { IfOk result (λ r. r.out.items ≡ run_text (commands_of script.now) (file_of files.now) (commands_of script.now)) }
     ensures journal { IfOk result (λ r. r.journal.items ≡ journal_text (script_records script.now files.now)) }
 {
-    let lines = script.as_slice();
-    let grids = grids_of(alloc, script)?;
     let mut world = World::open(alloc, script, files, &[], room)?;
     let mut out = Vec::new(alloc);
-    for i in 0..script.lines() {
-        if let Some(command) = &lines[i as usize] {
-            run_line(
-                alloc,
-                &mut world,
-                script,
-                files,
-                &grids,
-                i + 1,
-                command,
-                &mut out,
-            )?;
-        }
-    }
+    run_lines(alloc, &mut world, script, files, &mut out)?;
     let journal = journal_text(alloc, world.journal())?;
     Ok(Ran { out, journal })
 }

@@ -39,3 +39,28 @@ numbers_fail front words i d total lt e t = sym (ap (onto front) (numbers_cut wo
 pub numbers_end : (front : List ℕ) (words : List (List ℕ)) (i : ℕ) (total : Option (List ℕ)) → i ≡ length words → onto front (numbers_of (drop i words)) ≡ total → Some front ≡ total
 unfolding numbers_of
 numbers_end front words i total e t = ap (λ xs. Some xs) (sym (append-nil front)) ∙ sym (ap (λ ws. onto front (numbers_of ws)) (drop_whole words i e)) ∙ t
+
+-- ---- the numbers at some places of a line
+
+-- each number is handed on in turn, and all together to what is made of them
+abbrev pub with_each : {X : Type 0} → List (List ℕ) → (List ℕ → Option X) → Option X
+with_each [] f = f []
+with_each (word ∷ words) f = number_of word >>= (λ n. with_each words (λ ns. f (n ∷ ns)))
+
+one_of_all : {X : Type 0} (n : ℕ) (more : Option (List ℕ)) (f : List ℕ → Option X) → ((more >>= (λ ns. Some (n ∷ ns))) >>= f) ≡ (more >>= (λ ns. f (n ∷ ns)))
+one_of_all n None f = refl
+one_of_all n (Some ns) f = refl
+
+first_of_all : {X : Type 0} (o : Option ℕ) (more : Option (List ℕ)) (f : List ℕ → Option X) (rest : (List ℕ → Option X) → Option X) →
+    ((g : List ℕ → Option X) → (more >>= g) ≡ rest g) → ((o >>= (λ n. more >>= (λ ns. Some (n ∷ ns)))) >>= f) ≡ (o >>= (λ n. rest (λ ns. f (n ∷ ns))))
+first_of_all None more f rest e = refl
+first_of_all (Some n) more f rest e = one_of_all n more f ∙ e (λ ns. f (n ∷ ns))
+
+all_at_once : {X : Type 0} (words : List (List ℕ)) (f : List ℕ → Option X) → (numbers_of words >>= f) ≡ with_each words f
+unfolding numbers_of
+all_at_once [] f = refl
+all_at_once (word ∷ words) f = first_of_all (number_of word) (numbers_of words) f (with_each words) (λ g. all_at_once words g)
+
+-- what is made of the numbers that were read, and what where one is missing
+pub made_of : {X : Type 0} (words : List (List ℕ)) (f : List ℕ → Option X) (o : Option (List ℕ)) → o ≡ numbers_of words → (o >>= f) ≡ with_each words f
+made_of words f o e = ap (λ (x : Option (List ℕ)). x >>= f) e ∙ all_at_once words f

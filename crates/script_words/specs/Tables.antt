@@ -1,5 +1,5 @@
 -- Tables of rules. A rule is its code, and whether it is kept.
-use Rattle.std.specs.Prelude.{◌-◌, if◌then◌else◌, Bool, List, [], ◌∷◌, Option, Some, None, ℤ}
+use Rattle.std.specs.Prelude.{if◌then◌else◌, Bool, List, [], ◌∷◌, Option, Some, None, ℤ}
 
 -- the code of the first rule that is not kept
 abbrev pub first_code : List (ℤ × Bool) → Option ℤ

@@ -1,5 +1,5 @@
 //! The lines of a script as commands.
-ghost use Rattle.std.specs.Prelude.{◌≡◌, IfOk};
+ghost use Rattle.std.specs.Prelude.{◌≡◌, IfOk, map};
 ghost use Rattle.script_words.specs.Kinds.{command_word};
 ghost use Rattle.script_words.specs.Commands.{word_at, number_at, grid_of, matrix_of, links_of, numbers_of, order_of, lose_of, spares_line_of, command_as, command_of};
 
@@ -32,19 +32,52 @@ pub fn word_at(alloc: Global, words: &[Word], i: usize) -> Result<Word, NoMemory
     Word::new(alloc, bytes_at(words, i))
 }
 
+/// Two words of a line.
+pub fn pair_at(alloc: Global, words: &[Word], i: usize, j: usize) -> Result<(Word, Word), NoMemory>
+    ensures first { IfOk result (λ pair. pair.0 ≡ word_at words.now i) }
+    ensures second { IfOk result (λ pair. pair.1 ≡ word_at words.now j) }
+{
+    let first = word_at(alloc, words, i)?;
+    let second = word_at(alloc, words, j)?;
+    Ok((first, second))
+}
+
+/// Three words of a line.
+pub fn triple_at(
+    alloc: Global,
+    words: &[Word],
+    i: usize,
+    j: usize,
+    k: usize,
+) -> Result<(Word, Word, Word), NoMemory>
+    ensures first { IfOk result (λ triple. triple.0 ≡ word_at words.now i) }
+    ensures second { IfOk result (λ triple. triple.1 ≡ word_at words.now j) }
+    ensures third { IfOk result (λ triple. triple.2 ≡ word_at words.now k) }
+{
+    let (first, second) = pair_at(alloc, words, i, j)?;
+    let third = word_at(alloc, words, k)?;
+    Ok((first, second, third))
+}
+
+/// The numbers that the words at some places of a line are, if all of them are numbers.
+pub fn numbers_at<const N: usize>(words: &[Word], places: [usize; N]) -> Option<[u32; N]>
+    ensures { result ≡ numbers_of (map (word_at words.now) places.entry) }
+{
+    let mut numbers = [0; N];
+    for i in 0..N {
+        numbers[i] = number_at(words, places[i])?;
+    }
+    Some(numbers)
+}
+
 #[tactic(auto, unfolding(crate::specs::Commands::grid_of))]
 fn grid_of(alloc: Global, words: &[Word]) -> Result<Option<Command>, NoMemory>
     ensures { IfOk result (λ c. c ≡ grid_of words.now) }
 {
-    let Some(p) = number_at(words, 2) else {
+    let Some(numbers) = numbers_at(words, [2, 3, 4]) else {
         return Ok(None);
     };
-    let Some(q) = number_at(words, 3) else {
-        return Ok(None);
-    };
-    let Some(f) = number_at(words, 4) else {
-        return Ok(None);
-    };
+    let [p, q, f] = numbers;
     let name = word_at(alloc, words, 1)?;
     Ok(Some(Command::Grid { name, p, q, f }))
 }
@@ -53,27 +86,11 @@ fn grid_of(alloc: Global, words: &[Word]) -> Result<Option<Command>, NoMemory>
 fn matrix_of(alloc: Global, words: &[Word]) -> Result<Option<Command>, NoMemory>
     ensures { IfOk result (λ c. c ≡ matrix_of words.now) }
 {
-    let Some(m) = number_at(words, 3) else {
+    let Some(numbers) = numbers_at(words, [3, 4, 5, 6, 7, 8]) else {
         return Ok(None);
     };
-    let Some(n) = number_at(words, 4) else {
-        return Ok(None);
-    };
-    let Some(mb) = number_at(words, 5) else {
-        return Ok(None);
-    };
-    let Some(nb) = number_at(words, 6) else {
-        return Ok(None);
-    };
-    let Some(rsrc) = number_at(words, 7) else {
-        return Ok(None);
-    };
-    let Some(csrc) = number_at(words, 8) else {
-        return Ok(None);
-    };
-    let name = word_at(alloc, words, 1)?;
-    let grid = word_at(alloc, words, 2)?;
-    let file = word_at(alloc, words, 9)?;
+    let [m, n, mb, nb, rsrc, csrc] = numbers;
+    let (name, grid, file) = triple_at(alloc, words, 1, 2, 9)?;
     Ok(Some(Command::Matrix {
         name,
         grid,

@@ -1,32 +1,28 @@
-use Rattle.std.proofs.Common.{◌≡◌, ◌+◌, ◌-◌, refl, sym, ◌∙◌, arith}
-use Rattle.run_data.specs.Matrix.{cols}
+use Rattle.std.proofs.Common.{◌+◌, refl, sym, ◌∙◌}
 use Rattle.elimination.proofs.WholeCarried.{words_of_part, rows_of_part, cols_of_part}
+use Rattle.elimination.proofs.WholeFits.{row_within, next_row, column_inside, one_row, row_columns}
 use Rattle.elimination.proofs.WholeSteps.{rows_after_swap, cols_after_swap, words_after_swap, pivot_word, none_matrix, none_list, some_matrix, some_list}
 use Rattle.elimination.proofs.whole.eliminate_strip_column.Goals as goal
 
 pub part-requires : goal.part-requires
 part-requires g c =
-    let rows : c.swap_rows.new.dst.rows ≡ c.args.a.now.rows = rows_after_swap _ _ _ _ c.swap_rows.ensures in
-    let columns : cols c.swap_rows.new.dst ≡ cols c.args.a.now = cols_after_swap _ _ _ _ c.swap_rows.ensures in
-    record { rows_ordered = omega arith; rows_end = omega arith; columns_ordered = omega arith; columns_end = omega arith }
+    row_within c.args.a.now c.swap_rows.new.dst (c.args.first + c.args.j) c.cols-cols.result (rows_after_swap _ _ _ _ c.swap_rows.ensures) (cols_after_swap _ _ _ _ c.swap_rows.ensures) c.cols-cols.ensures
+    c.requires.inside
 
 pub eliminate-requires-clause-from : goal.eliminate-requires-clause-from
 eliminate-requires-clause-from g c =
-    let rows : c.swap_rows.new.dst.rows ≡ c.args.a.now.rows = rows_after_swap _ _ _ _ c.swap_rows.ensures in omega arith
+    next_row c.args.a.now c.swap_rows.new.dst (c.args.first + c.args.j) (rows_after_swap _ _ _ _ c.swap_rows.ensures) c.requires.inside
 
 pub eliminate-requires-clause-column : goal.eliminate-requires-clause-column
 eliminate-requires-clause-column g c =
-    let columns : cols c.swap_rows.new.dst ≡ cols c.args.a.now = cols_after_swap _ _ _ _ c.swap_rows.ensures in omega arith
+    column_inside c.args.a.now c.swap_rows.new.dst c.args.j (cols_after_swap _ _ _ _ c.swap_rows.ensures) c.requires.column
 
 pub eliminate-requires-clause-row_rows : goal.eliminate-requires-clause-row_rows
-eliminate-requires-clause-row_rows g c =
-    let rows : c.in_ok-row-in-Some.row.rows ≡ c.args.first + c.args.j + 1 - (c.args.first + c.args.j) = rows_of_part _ _ _ c.in_ok-row-in-Some.ensures in omega arith
+eliminate-requires-clause-row_rows g c = one_row c.in_ok-row-in-Some.row (c.args.first + c.args.j) (rows_of_part _ _ _ c.in_ok-row-in-Some.ensures)
 
 pub eliminate-requires-clause-row_columns : goal.eliminate-requires-clause-row_columns
 eliminate-requires-clause-row_columns g c =
-    let columns : cols c.swap_rows.new.dst ≡ cols c.args.a.now = cols_after_swap _ _ _ _ c.swap_rows.ensures in
-    let row : cols c.in_ok-row-in-Some.row ≡ c.cols-cols.result - 0 = cols_of_part _ _ _ c.in_ok-row-in-Some.ensures in
-    omega arith
+    row_columns c.args.a.now c.swap_rows.new.dst c.in_ok-row-in-Some.row c.cols-cols.result (cols_after_swap _ _ _ _ c.swap_rows.ensures) (cols_of_part _ _ _ c.in_ok-row-in-Some.ensures) c.cols-cols.ensures
 
 pub eliminate-requires-clause-dst_words : goal.eliminate-requires-clause-dst_words
 eliminate-requires-clause-dst_words g c = words_after_swap _ _ _ _ _ c.requires.words c.swap_rows.ensures

@@ -1,7 +1,7 @@
 use Rattle.std.proofs.Common.{◌+◌, ◌*◌, ◌%◌, ◌∙◌, ap, arith}
 use Rattle.run_data.specs.Matrix.{entry}
 use Rattle.run_data.proofs.Fills.{fill_starts, fill_goes_on, fill_ends_column, fill_ends, fill_reads_next}
-use Rattle.local_blas.proofs.Columns.{fill_reads_beside}
+use Rattle.local_blas.proofs.Columns.{fill_reads_beside, filled_row, filled_column}
 use Rattle.local_blas.proofs.rows.eliminate_column.Goals as goal
 
 pub loop-i-init : goal.loop-i-init
@@ -14,6 +14,24 @@ add_product-requires-clause-word g c =
 pub add_product-requires-clause-left : goal.add_product-requires-clause-left
 add_product-requires-clause-left g c =
     rw (fill_reads_beside _ _ _ _ _ _ _ _ _ c.loop-i.invariant c.get-multiplier.ensures c.requires.column c.requires.other (omega arith) c.requires.multipliers) (c.requires.words.below c.loop-i.i c.args.j)
+
+pub get-word-requires-clause-row : goal.get-word-requires-clause-row
+get-word-requires-clause-row g c = filled_row _ _ _ _ _ _ c.loop-i.invariant (omega arith)
+
+pub get-word-requires-clause-column : goal.get-word-requires-clause-column
+get-word-requires-clause-column g c = filled_column _ _ _ _ _ _ c.loop-i.invariant (omega arith)
+
+pub get-multiplier-requires-clause-row : goal.get-multiplier-requires-clause-row
+get-multiplier-requires-clause-row g c = filled_row _ _ _ _ _ _ c.loop-i.invariant (omega arith)
+
+pub get-multiplier-requires-clause-column : goal.get-multiplier-requires-clause-column
+get-multiplier-requires-clause-column g c = filled_column _ _ _ _ _ _ c.loop-i.invariant c.requires.multipliers
+
+pub set-requires-clause-row : goal.set-requires-clause-row
+set-requires-clause-row g c = filled_row _ _ _ _ _ _ c.loop-i.invariant (omega arith)
+
+pub set-requires-clause-column : goal.set-requires-clause-column
+set-requires-clause-column g c = filled_column _ _ _ _ _ _ c.loop-i.invariant (omega arith)
 
 pub loop-i-preserved : goal.loop-i-preserved
 loop-i-preserved g c =

@@ -5,6 +5,7 @@ use Rattle.run_data.specs.Parts.{part_entry}
 use Rattle.run_data.proofs.Fills.{AreWords-with_done, fill_up_starts, fill_up_goes_on, fill_up_ends_column, fill_up_ends}
 use Rattle.local_blas.proofs.UpperSolutions.{upper_solution-below}
 use Rattle.local_blas.proofs.ColumnSolutions.{upper_goes_on}
+use Rattle.local_blas.proofs.Columns.{filled_row, filled_column, filled_within}
 use Rattle.local_blas.proofs.solve.solve_upper_column.Goals as goal
 
 pub loop-i-init : goal.loop-i-init
@@ -14,6 +15,15 @@ pub upper_word-word-requires-clause-dst_words : goal.upper_word-word-requires-cl
 upper_word-word-requires-clause-dst_words g c =
     subst (AreWords g.K.Field.MODULUS) (sym c.loop-i.invariant)
     (AreWords-with_done _ _ _ _ _ (omega (arith, g.met.K.Field.at_least)) c.requires.dst_words (λ i j. upper_solution-below g.K.Field.MODULUS (inverse g.K.Field.MODULUS) c.args.unit (c.args.at.r1 - c.args.at.r0) (part_entry c.args.block.now c.args.bp) (λ k. part_entry c.args.dst.now c.args.at k (j - c.args.at.c0)) (i - c.args.at.r0) (omega (arith, g.met.K.Field.at_least))))
+
+pub upper_word-word-requires-clause-dst_part : goal.upper_word-word-requires-clause-dst_part
+upper_word-word-requires-clause-dst_part g c = filled_within _ _ _ _ _ _ c.loop-i.invariant c.requires.dst_part
+
+pub set-requires-clause-row : goal.set-requires-clause-row
+set-requires-clause-row g c = filled_row _ _ _ _ _ _ c.loop-i.invariant (omega arith)
+
+pub set-requires-clause-column : goal.set-requires-clause-column
+set-requires-clause-column g c = filled_column _ _ _ _ _ _ c.loop-i.invariant (omega arith)
 
 pub loop-i-preserved : goal.loop-i-preserved
 loop-i-preserved g c =

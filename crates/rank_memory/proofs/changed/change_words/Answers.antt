@@ -86,3 +86,39 @@ returns-in-Elim g c =
     (λ e. ap Words e ∙ sym (elim_made (setting_on g.K.Field.MODULUS c.args.table.now) c.args.rank (tiles_in c.args.cells.now) c.args.dst.now c.in-Elim.to c.in-Elim.j c.in-Elim.above c.in-Elim.row (fit_of g.K.Field.MODULUS (setting_on g.K.Field.MODULUS c.args.table.now) c.args.rank (tiles_in c.args.cells.now) (Words c.args.dst.now) c.args.kernel.now (k.Elim c.in-Elim.to c.in-Elim.j c.in-Elim.above c.in-Elim.row) c.in-Elim.is c.requires.fit).apart)
     ∙ made_of (setting_on g.K.Field.MODULUS c.args.table.now) c.args.rank (tiles_in c.args.cells.now) (Words c.args.dst.now) c.args.kernel.now (k.Elim c.in-Elim.to c.in-Elim.j c.in-Elim.above c.in-Elim.row) c.in-Elim.is)
     c.eliminate_from.ensures
+
+pub add_from-requires-clause-sound : goal.add_from-requires-clause-sound
+add_from-requires-clause-sound g c = c.requires.sound
+
+pub add_from-requires-clause-residues : goal.add_from-requires-clause-residues
+add_from-requires-clause-residues g c = c.requires.residues
+
+pub add_from-requires-clause-dst_words : goal.add_from-requires-clause-dst_words
+add_from-requires-clause-dst_words g c = c.requires.dst_words
+
+pub multiply_from-requires-clause-residues : goal.multiply_from-requires-clause-residues
+multiply_from-requires-clause-residues g c = c.requires.residues
+
+pub multiply_from-requires-clause-dst_words : goal.multiply_from-requires-clause-dst_words
+multiply_from-requires-clause-dst_words g c = c.requires.dst_words
+
+pub solve_lower_from-requires-clause-residues : goal.solve_lower_from-requires-clause-residues
+solve_lower_from-requires-clause-residues g c = c.requires.residues
+
+pub solve_lower_from-requires-clause-dst_words : goal.solve_lower_from-requires-clause-dst_words
+solve_lower_from-requires-clause-dst_words g c = c.requires.dst_words
+
+pub solve_upper_from-requires-clause-residues : goal.solve_upper_from-requires-clause-residues
+solve_upper_from-requires-clause-residues g c = c.requires.residues
+
+pub solve_upper_from-requires-clause-dst_words : goal.solve_upper_from-requires-clause-dst_words
+solve_upper_from-requires-clause-dst_words g c = c.requires.dst_words
+
+pub eliminate_from-requires-clause-sound : goal.eliminate_from-requires-clause-sound
+eliminate_from-requires-clause-sound g c = c.requires.sound
+
+pub eliminate_from-requires-clause-residues : goal.eliminate_from-requires-clause-residues
+eliminate_from-requires-clause-residues g c = c.requires.residues
+
+pub eliminate_from-requires-clause-dst_words : goal.eliminate_from-requires-clause-dst_words
+eliminate_from-requires-clause-dst_words g c = c.requires.dst_words

@@ -7,7 +7,7 @@ use Rattle.rank_machine.specs.Setting.{Layout, global_row}
 use Rattle.rank_machine.specs.Effect.{area}
 use Rattle.rank_machine.specs.Legal.{height, breadth}
 use Rattle.script_lines.specs.Lines.{setting_on}
-use Rattle.rank_slots.proofs.TestLaws.{in_matrix-member}
+use Rattle.rank_slots.proofs.TestLaws.{in_matrix-member, within}
 use Rattle.rank_memory.specs.Places.{layout_of}
 use Rattle.rank_memory.proofs.words.eliminate_words.Goals as goal
 
@@ -32,3 +32,15 @@ pub returns : goal.returns
 returns g c =
     subst (λ (d : Layout). OnOk c.eliminate_below.result (c.eliminate_below.new.dst ≡ with_eliminated g.K.Field.MODULUS (inverse g.K.Field.MODULUS) c.args.dst.now (λ i. nat_lt c.args.above (global_row d c.args.rank i)) c.args.j c.args.row.now (area c.args.x c.args.row.now)))
     (sym c.located-placed.ensures.layout) c.eliminate_below.ensures
+
+pub eliminate_below-requires-clause-sound : goal.eliminate_below-requires-clause-sound
+eliminate_below-requires-clause-sound g c = c.located-placed.ensures.sound
+
+pub eliminate_below-requires-clause-row_part : goal.eliminate_below-requires-clause-row_part
+eliminate_below-requires-clause-row_part g c = within (area c.args.x c.args.row.now) c.args.row.now c.requires.row_in
+
+pub eliminate_below-requires-clause-dst_words : goal.eliminate_below-requires-clause-dst_words
+eliminate_below-requires-clause-dst_words g c = c.requires.dst_words
+
+pub eliminate_below-requires-clause-row_words : goal.eliminate_below-requires-clause-row_words
+eliminate_below-requires-clause-row_words g c = c.requires.row_words

@@ -8,7 +8,7 @@ loop-init g c =
 
 pub returns-then-due-clause-run : goal.returns-then-due-clause-run
 returns-then-due-clause-run g c =
-    run_hit g.S.Store.base c.loop.invariant.0 c.args.round.now c.events-events.ensures g.met.S.Store.keeps_base refl refl (omega arith) (sym c.due.ensures ∙ c.if-due.true)
+    run_hit g.S.Store.base c.loop.invariant.0 c.args.round.now c.events-events.ensures g.met.S.Store.keeps_base refl (omega arith) (sym c.due.ensures ∙ c.if-due.true)
 
 pub pick_rank-requires-clause-some : goal.pick_rank-requires-clause-some
 pick_rank-requires-clause-some g c =
@@ -60,4 +60,4 @@ loop-preserved g c = (
 
 pub returns-clause-run : goal.returns-clause-run
 returns-clause-run g c =
-    run_whole g.S.Store.base c.loop.invariant.0 c.args.round.now c.events-events.ensures g.met.S.Store.keeps_base refl c.requires.ranks refl (omega arith)
+    run_whole g.S.Store.base c.loop.invariant.0 c.args.round.now c.events-events.ensures g.met.S.Store.keeps_base c.requires.ranks refl (omega arith)

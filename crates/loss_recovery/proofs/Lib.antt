@@ -1,0 +1,9 @@
+pub mod Worlds
+pub mod Scripted
+pub mod Carrying
+pub mod Saving
+pub mod Running
+pub mod Recovering
+pub mod Attempting
+pub mod Beginning
+pub mod Opening

@@ -1,0 +1,4 @@
+pub mod Rooms
+pub mod Beginnings
+pub mod EventSizes
+pub mod RowSizes

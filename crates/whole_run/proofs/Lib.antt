@@ -1,0 +1,12 @@
+pub mod Lasting
+pub mod Shorter
+pub mod Ending
+pub mod Keeping
+pub mod Later
+pub mod Inward
+pub mod Completing
+pub mod JobLines
+pub mod Passing
+pub mod Opening
+pub mod LineEnds
+pub mod Mendable

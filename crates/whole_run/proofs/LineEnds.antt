@@ -1,0 +1,141 @@
+-- A phase whose commit ends the next line leads from one line to the next.
+use Rattle.std.proofs.Common.{◌≡◌, ◌+◌, ◌*◌, ◌≤◌, ◌<◌, ◌==◌, ◌&&◌, ◌||◌, ℕ, suc, Bool, true, false, nat_lt, List, [], ◌∷◌, ◌++◌, Option, Some, None, refl, sym, ap, subst, ◌∙◌, ⊎_elim, arith}
+use Rattle.std.specs.Prelude.{if◌then◌else◌, nat_le, Contains}
+use Rattle.std.specs.List.{sum_by}
+use Rattle.std.proofs.lemmas.List.{append-nil}
+use Rattle.std.proofs.lemmas.List.Elements.{Contains-append_left, Contains-push}
+use Rattle.std.proofs.lemmas.List.Sums.{sum_by-append, sum_by-cons}
+use Rattle.std.proofs.lemmas.Bool.{leb-true, le-leb, lt-ltb, ltb-true, eqb-true, eq-eqb, or_cases, or_left, or_right, and_parts, and_from, true≢false, cases_Bool, false_from_ne_true}
+use Rattle.run_data.specs.Matrix.{Matrix}
+use Rattle.run_data.specs.declared.command.Command.{Command}
+use Rattle.run_data.specs.Script.{Numbered, commands_of, command_at}
+use Rattle.rank_machine.specs.declared.mark.Mark.{Mark}
+use Rattle.rank_machine.specs.declared.record.Rec.{Rec}
+use Rattle.rank_machine.specs.declared.record.Rec.TheVariants as r
+use Rattle.rank_machine.specs.Setting.{Setting, is_job}
+use Rattle.rank_machine.specs.Scripts.{Matrices, file_of, setting_of}
+use Rattle.rank_machine.specs.State.{State, Took, end_mark}
+use Rattle.rank_machine.specs.Effect.{has_ended}
+use Rattle.rank_machine.specs.Losses.{last_ended}
+use Rattle.script_bounds.specs.Bounds.{records_in, losses, phase_steps, recovery_steps}
+use Rattle.serial_model.specs.Serial.{Values, values_after, text_added, text_from, up_to, text_to}
+use Rattle.block_world.specs.World.{WorldView, setting_in, state_of}
+use Rattle.run_laws.specs.Traces.{spent}
+use Rattle.phases.specs.Plans.{Plan, Progress}
+use Rattle.loss_recovery.specs.Driven.{IsDriven, CostsAtMost}
+use Rattle.world_heal.specs.Costs.{KeepsGoing, KeepsShort, KeepsHealing}
+use Rattle.run_records.specs.PrintedFrom.{IsTextOf, ArePrinted}
+use Rattle.line_laws.proofs.UpTo.{one_of, up_to-next, text-append, values-append}
+use Rattle.whole_run.specs.Until.{values_at, bound_until, AllEndUntil}
+use Rattle.line_laws.specs.Lines.{values_of}
+use Rattle.whole_run.specs.Between.{StandsFor, IsInBounds, HasRun, cost}
+use Rattle.whole_run.specs.Inside.{KeepsHolding}
+use Rattle.whole_run.proofs.Ending.{setting_is}
+use Rattle.whole_run.proofs.Lasting.{last_append}
+use Rattle.whole_run.proofs.Later.{AreLater, printed-later}
+use Rattle.whole_run.proofs.Passing.{printed-append, le_step}
+
+-- a phase of the next line has been driven to the commit that ends the line, in bounds; it left what the line's command is to leave, and printed what it is to print
+pub record EndsLine (script : List (Option Command)) (files : Matrices) (line : ℕ) (old new : WorldView) (x : Command) (text : List ℕ) : Type 1 where
+  pub command : command_at (commands_of script) (suc line) ≡ Some x
+  pub plan : Plan
+  pub progress : Progress
+  pub mark : plan.mark ≡ end_mark (suc line)
+  pub driven : IsDriven plan progress old new
+  pub few : plan.most_records ≤ records_in (commands_of script) (suc line) x
+  pub goes : KeepsGoing old new
+  pub short : KeepsShort (phase_steps (commands_of script)) old new
+  pub heals : KeepsHealing (recovery_steps (commands_of script)) old new
+  pub held : KeepsHolding old new
+  pub costs : CostsAtMost (phase_steps (commands_of script)) (recovery_steps (commands_of script)) old new plan.most_records
+  pub later : AreLater line progress.takes
+  pub stands : StandsFor (setting_of script files) (commands_of script) (state_of new) (values_after (file_of files) (suc line) x (values_at (file_of files) (commands_of script) line))
+  pub says : IsTextOf (setting_of script files) (commands_of script) ((state_of old).committed ++ progress.takes) (suc line) x text
+  pub text_is : text ≡ text_added x (values_at (file_of files) (commands_of script) line)
+
+-- ---- the mark of the line's end
+pub ended_at : (at line : ℕ) → has_ended (end_mark line) at ≡ nat_le at line
+ended_at at line =
+    ⊎_elim
+    (λ (e : nat_le at line ≡ true). ended at line (leb-true at line e) ∙ sym e)
+    (λ (e : nat_le at line ≡ false). false_from_ne_true (has_ended (end_mark line) at) (λ h. true≢false (sym (before at line h) ∙ e)) ∙ sym e)
+    (cases_Bool (nat_le at line))
+  where
+    ended : (at line : ℕ) → at ≤ line → has_ended (end_mark line) at ≡ true
+    ended at line le =
+        ⊎_elim
+        (λ (e : (at == line) ≡ true). or_right (nat_lt at line) ((at == line) && true) (and_from (at == line) true e refl))
+        (λ (e : (at == line) ≡ false). or_left (nat_lt at line) ((at == line) && true) (lt-ltb at line (less at line le (λ s. true≢false (sym (eq-eqb at line s) ∙ e)))))
+        (cases_Bool (at == line))
+      where
+        less : (a b : ℕ) → a ≤ b → (a ≡ b → ⊥) → a < b
+        less a b le ne = grind arith
+
+    before : (at line : ℕ) → has_ended (end_mark line) at ≡ true → nat_le at line ≡ true
+    before at line h =
+        le-leb at line
+        (⊎_elim
+        (λ (e : nat_lt at line ≡ true). omega (arith, ltb-true at line e))
+        (λ (e : ((at == line) && true) ≡ true). omega (arith, eqb-true at line (and_parts (at == line) true e).0))
+        (or_cases (nat_lt at line) ((at == line) && true) h))
+
+begun : (m : Mark) (line : ℕ) → nat_lt 0 line ≡ true → m ≡ end_mark line → m.ended ≡ nat_lt 0 m.line
+begun m line some e = ap (λ (m : Mark). m.ended) e ∙ sym (ap (λ (m : Mark). nat_lt 0 m.line) e ∙ some)
+
+-- ---- the line that ended last
+ends_there : (journal before : List Rec) (line : ℕ) → journal ≡ before ++ r.Commit (end_mark line) false ∷ [] → last_ended journal ≡ line
+ends_there journal before line e = ap last_ended e ∙ last_append 0 before (r.Commit (end_mark line) false ∷ [])
+
+commit_there : (journal before : List Rec) (line : ℕ) → journal ≡ before ++ r.Commit (end_mark line) false ∷ [] → Contains journal (r.Commit (end_mark line) false)
+commit_there journal before line e =
+    subst (λ j. Contains j (r.Commit (end_mark line) false)) (sym e) (Contains-push before (r.Commit (end_mark line) false))
+
+pub line-ends : (script : List (Option Command)) (files : Matrices) (line : ℕ) (old new : WorldView) (out : List ℕ) (x : Command) (text : List ℕ) → HasRun script files line old out → EndsLine script files line old new x text → HasRun script files (suc line) new (out ++ text)
+line-ends script files line old new out x text h g =
+    let ns = commands_of script in
+    let one = one_of (suc line) (command_at ns (suc line)) in
+    let this : one ≡ record { line = suc line; command = x } ∷ [] = ap (one_of (suc line)) g.command in
+    let more : up_to (suc line) ns ≡ up_to line ns ++ record { line = suc line; command = x } ∷ [] = up_to-next 1 line script ∙ ap (λ o. up_to line ns ++ o) this in
+    let was : setting_in old ≡ setting_of script files = setting_is old script files h.script_is h.files_are in
+    let script_new : new.script ≡ script = g.driven.later.script ∙ h.script_is in
+    let files_new : new.files ≡ files = g.driven.later.files ∙ h.files_are in
+    let now : setting_in new ≡ setting_of script files = setting_is new script files script_new files_new in
+    let same : setting_in new ≡ setting_in old = now ∙ sym was in
+    let mark : (state_of new).mark ≡ end_mark (suc line) = g.driven.mark ∙ g.mark in
+    let journal : new.journal ≡ g.driven.before ++ r.Commit (end_mark (suc line)) false ∷ [] = g.driven.commit ∙ ap (λ m. g.driven.before ++ r.Commit m false ∷ []) g.mark in
+    let bounds : IsInBounds (setting_in old) (phase_steps ns) (recovery_steps ns) new.journal =
+    record { goes = g.goes h.bounds.goes; short = g.short h.bounds.short; heals = g.heals h.bounds.heals; held = g.held h.bounds.held } in
+    let before_it : ArePrinted (setting_of script files) ns ((state_of old).committed ++ g.progress.takes) (up_to line ns) out =
+    printed-later (setting_of script files) ns (state_of old).committed g.progress.takes line ns out g.later (subst (λ s. ArePrinted s ns (state_of old).committed (up_to line ns) out) was h.printed) in
+    let printed : ArePrinted (setting_of script files) ns ((state_of old).committed ++ g.progress.takes) (up_to line ns ++ record { line = suc line; command = x } ∷ []) (out ++ text) =
+    printed-append (setting_of script files) ns ((state_of old).committed ++ g.progress.takes) (up_to line ns) (record { line = suc line; command = x } ∷ []) out text before_it (text, [], g.says, refl, sym (append-nil text)) in
+    let values : values_at (file_of files) ns (suc line) ≡ values_after (file_of files) (suc line) x (values_at (file_of files) ns line) =
+    ap (λ xs. values_of (file_of files) xs (λ name. None)) more ∙ values-append (file_of files) (up_to line ns) (record { line = suc line; command = x } ∷ []) (λ name. None) in
+    let said : text_to (file_of files) ns (suc line) ≡ text_to (file_of files) ns line ++ (text_added x (values_at (file_of files) ns line) ++ []) =
+    ap (λ xs. text_from (file_of files) xs (λ name. None)) more ∙ text-append (file_of files) (up_to line ns) (record { line = suc line; command = x } ∷ []) (λ name. None) in
+    let bound : bound_until (suc line) ns ≡ bound_until line ns + records_in ns (suc line) x =
+    ap (λ xs. sum_by (λ (n : Numbered). records_in ns n.line n.command) xs) more
+    ∙ (sum_by-append (λ n. records_in ns n.line n.command) (up_to line ns) (record { line = suc line; command = x } ∷ [])
+    ∙ omega (arith, sum_by-cons (λ (n : Numbered). records_in ns n.line n.command) (record { line = suc line; command = x }) [])) in
+    record {
+      script_is = script_new;
+      files_are = files_new;
+      rest = g.driven.rest;
+      done = λ at job. ap (λ m. has_ended m at) mark ∙ ended_at at (suc line);
+      none_begun = begun (state_of new).mark (suc line) (lt-ltb 0 (suc line) (omega arith)) mark;
+      last = ap (λ k. nat_le k (suc line)) (ends_there new.journal g.driven.before (suc line) journal) ∙ le-leb (suc line) (suc line) (omega arith);
+      ends = λ at job le.
+          ⊎_elim
+          (λ (e : (at == suc line) ≡ true). subst (λ k. Contains new.journal (r.Commit (end_mark k) false)) (sym (eqb-true at (suc line) e)) (commit_there new.journal g.driven.before (suc line) journal))
+          (λ (e : (at == suc line) ≡ false).
+          subst (λ j. Contains j (r.Commit (end_mark at) false)) (sym g.driven.later.journal)
+          (Contains-append_left old.journal g.driven.later.added (r.Commit (end_mark at) false) (h.ends at (subst (λ s. is_job s at ≡ true) same job) (le_step at line le (λ k. true≢false (sym (eq-eqb at (suc line) k) ∙ e))))))
+          (cases_Bool (at == suc line));
+      stands = subst (λ s. StandsFor s ns (state_of new) (values_at (file_of files) ns (suc line))) (sym now) (subst (λ v. StandsFor (setting_of script files) ns (state_of new) v) (sym values) g.stands);
+      printed = subst (λ s. ArePrinted s ns (state_of new).committed (up_to (suc line) ns) (out ++ text)) (sym now)
+          (subst (λ xs. ArePrinted (setting_of script files) ns (state_of new).committed xs (out ++ text)) (sym more)
+          (subst (λ t. ArePrinted (setting_of script files) ns t (up_to line ns ++ record { line = suc line; command = x } ∷ []) (out ++ text)) (sym g.driven.committed) printed));
+      text = (λ i. h.text i ++ (g.text_is ∙ sym (append-nil (text_added x (values_at (file_of files) ns line)))) i) ∙ sym said;
+      bounds = subst (λ s. IsInBounds s (phase_steps ns) (recovery_steps ns) new.journal) (sym same) bounds;
+      few = subst (λ s. spent (cost ns) s new.journal ≤ bound_until (suc line) ns + losses ns * cost ns) (sym same) (omega (arith, g.costs, h.few, g.few, bound));
+    }

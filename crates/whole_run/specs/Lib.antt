@@ -1,0 +1,4 @@
+pub mod Until
+pub mod Between
+pub mod WholeRun
+pub mod Inside

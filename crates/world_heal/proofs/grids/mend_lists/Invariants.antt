@@ -1,0 +1,8 @@
+use Rattle.recovery_counts.specs.Counted.{lists_so_far}
+use Rattle.block_world.specs.World.{setting_in}
+use Rattle.world_heal.specs.Ways.{rest_of}
+use Rattle.world_heal.specs.Mended.{HasMended, AreListsHealed}
+use Rattle.world_heal.proofs.grids.mend_lists.Given as goal
+
+abbrev pub invariant-loop-i : goal.invariant-loop-i
+invariant-loop-i g l = HasMended (lists_so_far (setting_in l.initial.world) (rest_of l.initial.world).mark l.number l.i) (AreListsHealed l.number l.i) l.initial.world l.world

@@ -1,0 +1,25 @@
+-- How many records healing takes, and that its commit comes in time.
+use Rattle.std.specs.Prelude.{◌≤◌, ◌+◌, ℕ}
+use Rattle.run_laws.specs.Cuts.{NoneGoesTooFar}
+use Rattle.run_laws.specs.Traces.{AreShort, AllHeal, AllHealSoFar, spent, recovery_under}
+use Rattle.block_world.specs.World.{WorldView, setting_in, state_of}
+
+-- where each loss still to fall is counted as a recovery, no more than one is new
+abbrev pub Heals : WorldView → WorldView → Type 0
+Heals old new = let most = recovery_under (setting_in old) (state_of old).mark in spent most (setting_in old) new.journal ≤ spent most (setting_in old) old.journal + most
+
+-- no numbered record comes where the run is beyond repair
+abbrev pub KeepsGoing : WorldView → WorldView → Type 0
+KeepsGoing old new = NoneGoesTooFar (setting_in old) old.journal → NoneGoesTooFar (setting_in old) new.journal
+
+-- between two commits with no loss stand at most so many records
+abbrev pub KeepsShort : ℕ → WorldView → WorldView → Type 0
+KeepsShort phase old new = AreShort phase old.journal → AreShort phase new.journal
+
+-- after a loss a healed commit comes within so many records
+abbrev pub KeepsHealing : ℕ → WorldView → WorldView → Type 0
+KeepsHealing recovery old new = AllHeal recovery (setting_in old) old.journal → AllHeal recovery (setting_in old) new.journal
+
+-- the same, where the last losses have just fallen
+abbrev pub HealsInTime : WorldView → WorldView → Type 0
+HealsInTime old new = (recovery : ℕ) → recovery_under (setting_in old) (state_of old).mark ≤ recovery → AllHealSoFar recovery (setting_in old) old.journal → AllHeal recovery (setting_in old) new.journal
