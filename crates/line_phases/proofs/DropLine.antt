@@ -22,11 +22,10 @@ use Rattle.run_laws.proofs.Scripts.{script_rising}
 use Rattle.phases.specs.Plans.{Progress}
 use Rattle.plain_phases.specs.Ending.{MayEnd, end_plan}
 use Rattle.loss_recovery.specs.Driven.{IsDriven, CostsAtMost}
-use Rattle.world_heal.specs.Costs.{KeepsGoing, KeepsShort, KeepsHealing}
+use Rattle.world_heal.specs.Costs.{KeepsGoing, KeepsShort, KeepsHealing, KeepsHolding}
 use Rattle.line_laws.proofs.NextLine.{law-next}
 use Rattle.whole_run.specs.Until.{values_at}
 use Rattle.whole_run.specs.Between.{StandsFor, HasRun}
-use Rattle.whole_run.specs.Inside.{KeepsHolding}
 use Rattle.whole_run.proofs.Ending.{setting_is}
 use Rattle.whole_run.proofs.Later.{AreLater}
 use Rattle.whole_run.proofs.LineEnds.{EndsLine, ended_at}

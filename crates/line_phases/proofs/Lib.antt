@@ -1,3 +1,5 @@
+mod Ranges
+mod LastTakes
 pub mod NextJob
 pub mod StillStands
 pub mod MatrixLayout

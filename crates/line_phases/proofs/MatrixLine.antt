@@ -23,11 +23,10 @@ use Rattle.run_laws.specs.LastCommit.{IsScripted}
 use Rattle.run_laws.proofs.Scripts.{script_rising}
 use Rattle.phases.specs.Plans.{Progress}
 use Rattle.loss_recovery.specs.Driven.{IsDriven, CostsAtMost}
-use Rattle.world_heal.specs.Costs.{KeepsGoing, KeepsShort, KeepsHealing}
+use Rattle.world_heal.specs.Costs.{KeepsGoing, KeepsShort, KeepsHealing, KeepsHolding}
 use Rattle.feed_laws.specs.Feeding.{feed_task, feed_plan, feed_records, MayFeed, HasFed}
 use Rattle.whole_run.specs.Until.{values_at}
 use Rattle.whole_run.specs.Between.{StandsForMatrix, Names, StandsFor, HasRun}
-use Rattle.whole_run.specs.Inside.{KeepsHolding}
 use Rattle.whole_run.proofs.Ending.{setting_is}
 use Rattle.whole_run.proofs.Later.{AreLater}
 use Rattle.whole_run.proofs.LineEnds.{EndsLine}

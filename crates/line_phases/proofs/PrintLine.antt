@@ -34,12 +34,11 @@ use Rattle.run_laws.proofs.Scripts.{script_rising}
 use Rattle.phases.specs.Plans.{Progress}
 use Rattle.plain_phases.specs.Taking.{take_task, takes_of, MayTake, take_plan}
 use Rattle.loss_recovery.specs.Driven.{IsDriven, CostsAtMost}
-use Rattle.world_heal.specs.Costs.{KeepsGoing, KeepsShort, KeepsHealing}
-use Rattle.run_records.specs.PrintedFrom.{IsMatrixText}
+use Rattle.world_heal.specs.Costs.{KeepsGoing, KeepsShort, KeepsHealing, KeepsHolding}
+use Rattle.whole_run.specs.PrintedFrom.{IsMatrixText}
 use Rattle.line_laws.proofs.NextLine.{law-next}
 use Rattle.whole_run.specs.Until.{values_at}
 use Rattle.whole_run.specs.Between.{StandsFor, StandsForMatrix, HasRun}
-use Rattle.whole_run.specs.Inside.{KeepsHolding}
 use Rattle.whole_run.proofs.Ending.{setting_is}
 use Rattle.whole_run.proofs.LineEnds.{EndsLine}
 use Rattle.whole_run.proofs.Later.{AreLater}

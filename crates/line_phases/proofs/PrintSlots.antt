@@ -13,7 +13,7 @@ use Rattle.rank_machine.specs.declared.slot.Slot.{Slot}
 use Rattle.rank_machine.specs.declared.slot.SlotKind.TheVariants.{Data}
 use Rattle.rank_machine.specs.Setting.{Layout, group_count}
 use Rattle.rank_machine.specs.CodeLaw.{slot_at}
-use Rattle.run_records.proofs.EntryPlaces.{All-flat_map, Contains-flat_map, All-range, Contains-range, Contains-map_range}
+use Rattle.line_phases.proofs.Ranges.{All-flat_map, Contains-flat_map, All-range, Contains-range, Contains-map_range}
 use Rattle.line_phases.specs.Printing.{group_slots, strip_slots}
 
 -- the strip of a group on a member of the grid

@@ -15,7 +15,7 @@ use Rattle.rank_machine.specs.Legal.{IsTake}
 use Rattle.rank_machine.specs.Printed.{last_take, taken_from}
 use Rattle.rank_machine.proofs.Base.{same_slot-true}
 use Rattle.plain_phases.specs.Taking.{AreTakable, takes_of}
-use Rattle.run_records.proofs.PrintedLines.{Agrees, is_take_of, last_take-agreed}
+use Rattle.line_phases.proofs.LastTakes.{Agrees, is_take_of, last_take-agreed}
 use Rattle.whole_run.proofs.Later.{AreLater}
 
 -- ---- slots that may be taken

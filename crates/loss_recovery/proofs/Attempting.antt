@@ -26,12 +26,15 @@ use Rattle.run_laws.proofs.CodeLaws.{CodeLaw-commit}
 use Rattle.block_world.specs.World.{WorldView, setting_in, state_of, noted}
 use Rattle.block_world.specs.Did.{IsMade, IsStopped}
 use Rattle.phases.specs.Plans.{Plan, Progress, CanStart, saves}
+use Rattle.phases.specs.Words.{AddThrough, HasRoom}
+use Rattle.phase_words.specs.Resting.{IsMeasured}
 use Rattle.world_heal.specs.Ways.{rest_of, IsUnderWay, IsHit}
-use Rattle.world_heal.specs.Costs.{KeepsGoing, KeepsShort, KeepsHealing}
+use Rattle.world_heal.specs.Costs.{KeepsGoing, KeepsShort, KeepsHealing, HoldsWords}
 use Rattle.world_heal.proofs.Ways.{setting-way, under_way-then, rest_way, run_way, state_noted, numbered-way}
-use Rattle.loss_recovery.specs.Driven.{IsAtRest, HasCome, IsDriven, IsStraight}
+use Rattle.loss_recovery.specs.Driven.{IsAtRest, HasCome, IsDriven, IsStraight, HoldsAlong, HoldsDriven}
 use Rattle.run_laws.proofs.Healing.{heal-calm}
 use Rattle.loss_recovery.specs.Steps.{HasBegun, IsRunOut}
+use Rattle.loss_recovery.proofs.Holding.{saves_fit_in, home_holds}
 
 -- what the last commit left is the state of a world at rest
 pub at_rest : (w : WorldView) → since w.journal ≡ [] → rest_of w ≡ state_of w
@@ -217,3 +220,12 @@ pub hit_committing : (plan : Plan) (progress : Progress) (old mid new fin : Worl
 hit_committing plan progress old mid new fin st c out stop =
     subst (λ w. IsHit plan.most_records old w) (sym stop.kept)
     (record { under_way = under_way-then old mid new c.under_way out.under_way; few = omega (arith, c.count, out.count, out.few); due = stop.due })
+
+-- ---- words
+-- in the states that the saves lead through
+pub saved_holds : (plan : Plan) (old mid : WorldView) → IsAtRest old → HasRoom plan.most_words (setting_in old) (state_of old) → AddThrough plan.most_words (setting_in old) (state_of old) (state_of old) (saves plan.listed) → HoldsAlong (saves plan.listed) old mid → HoldsWords old mid
+saved_holds plan old mid h room fit along measured = along (saves_fit_in plan (setting_in old) (state_of old) (subst (λ st. IsMeasured (setting_in old) st) (at_rest old h.last) measured) h.rest room fit)
+
+-- and in that of the commit, where they hold in those before
+pub commit_holds : (plan : Plan) (progress : Progress) (old mid new fin : WorldView) (st : State) (x : Rec) → HasCome st (length plan.listed) old mid → IsRunOut plan progress mid new → fin ≡ noted new x → IsStraight plan progress old fin → HoldsWords old new → HoldsDriven old fin
+commit_holds plan progress old mid new fin st x c out e done h = home_holds old new fin x (under_way-then old mid new c.under_way out.under_way) e done.driven.rest.rest h

@@ -11,13 +11,15 @@ use Rattle.world_heal.specs.declared.healing.Drove.TheVariants as d
 use Rattle.phases.specs.Plans.{Plan, Progress, IgnoresSpawns}
 use Rattle.world_heal.specs.Ways.{rest_of, IsLater, IsHit}
 use Rattle.world_heal.specs.Outcomes.{IsCutAt, IfDrove, IsHealed}
-use Rattle.world_heal.specs.Costs.{KeepsGoing, KeepsShort}
+use Rattle.world_heal.specs.Costs.{KeepsGoing, KeepsShort, HoldsWords}
+use Rattle.phase_words.specs.Resting.{IsMeasured}
 use Rattle.world_heal.proofs.Ways.{setting-way, rest_way, run_way, mark-rest}
 use Rattle.world_heal.specs.Mended.{IsMendable}
 use Rattle.world_heal.proofs.Later.{later-same, later-then, later-way, setting-later, fewer-later}
-use Rattle.loss_recovery.specs.Driven.{site_at, IsAtRest, CostsAtMost, Recovers, cost_of, IsDriven, IsStraight, RecoversInTime}
+use Rattle.loss_recovery.specs.Driven.{site_at, IsAtRest, CostsAtMost, Recovers, cost_of, IsDriven, IsStraight, RecoversInTime, HoldsDriven}
 use Rattle.run_laws.specs.Cuts.{NoneGoesTooFar}
 use Rattle.loss_recovery.proofs.Attempting.{at_rest, going_way, short_way, in_time_way}
+use Rattle.loss_recovery.proofs.Holding.{holds_then, words_then, measured_spawned}
 
 -- what a phase and its recoveries cost, where it began again so far
 abbrev pub IsPaid : Plan → WorldView → WorldView → ℕ → Type 0
@@ -32,9 +34,10 @@ pub record IsBegun (plan : Plan) (old now : WorldView) : Type 0 where
   pub goes : KeepsGoing old now
   pub in_time : RecoversInTime old now
   pub short : (phase : ℕ) → plan.most_records ≤ phase → KeepsShort phase old now
+  pub holds : HoldsWords old now
 
 pub begun-first : (plan : Plan) (w : WorldView) → IsAtRest w → IsBegun plan w w
-begun-first plan w h = record { later = later-same w; rest = h; state = refl; paid = λ most recovery a b. omega arith; goes = λ h. h; in_time = λ recovery le h. h; short = λ phase le h. h }
+begun-first plan w h = record { later = later-same w; rest = h; state = refl; paid = λ most recovery a b. omega arith; goes = λ h. h; in_time = λ recovery le h. h; short = λ phase le h. h; holds = λ measured h. h }
 
 pub may-here : (plan : Plan) (old now : WorldView) → IgnoresSpawns plan → IsBegun plan old now → plan.MayDrive (setting_in old) (state_of old) → plan.MayDrive (setting_in now) (state_of now)
 may-here plan old now ignores h may =
@@ -77,6 +80,21 @@ again-going plan old now mid new h hit g =
 
 pub again-short : (plan : Plan) (old now mid new : WorldView) → IsBegun plan old now → IsHit plan.most_records now mid → ((phase : ℕ) → KeepsShort phase mid new) → (phase : ℕ) → plan.most_records ≤ phase → KeepsShort phase old new
 again-short plan old now mid new h hit g phase le short = g phase (short_way phase now mid hit.under_way (h.short phase le short))
+
+-- what is measured at the last commit is so where the phase begins again
+measured_here : (plan : Plan) (old now : WorldView) → IsAtRest old → IsBegun plan old now → IsMeasured (setting_in old) (rest_of old) → IsMeasured (setting_in now) (rest_of now)
+measured_here plan old now rest h measured =
+    let same : rest_of now ≡ with_spawned (rest_of old) (state_of now).spawned = at_rest now h.rest.last ∙ (h.state ∙ ap (λ st. with_spawned st (state_of now).spawned) (sym (at_rest old rest.last))) in
+    subst (λ s. IsMeasured s (rest_of now)) (sym (setting-later old now h.later)) (subst (λ st. IsMeasured (setting_in old) st) (sym same) (measured_spawned (setting_in old) (rest_of old) (state_of now).spawned measured))
+
+holds_here : (plan : Plan) (old now new : WorldView) → IsAtRest old → IsBegun plan old now → HoldsWords now new → HoldsWords old new
+holds_here plan old now new rest h g measured = holds_then old now new (setting-later old now h.later) (h.holds measured) (g (measured_here plan old now rest h measured))
+
+pub driven_holds : (plan : Plan) (old now new : WorldView) → IsAtRest old → IsBegun plan old now → HoldsDriven now new → HoldsDriven old new
+driven_holds plan old now new rest h g there = holds_here plan old now new rest h (g (subst (λ s. IsMeasured s (state_of new)) (sym (setting-later old now h.later)) there))
+
+pub again_holds : (plan : Plan) (old now mid new : WorldView) → IsAtRest old → IsBegun plan old now → IsHit plan.most_records now mid → HoldsWords now mid → HoldsWords mid new → HoldsWords old new
+again_holds plan old now mid new rest h hit g k = holds_here plan old now new rest h (words_then now mid new hit.under_way g k)
 
 -- one attempt, where it is the last
 pub driven-all : (plan : Plan) (progress : Progress) (old now new : WorldView) → IgnoresSpawns plan → IsBegun plan old now → IsStraight plan progress now new → IsDriven plan progress old new × IsPaid plan old new plan.most_records
@@ -133,8 +151,8 @@ again_paid plan old now mid new h hit later fewer heals most recovery a b =
     pays_again (numbered old.journal) (ahead (setting_in old) old.journal) (numbered now.journal) (ahead (setting_in old) now.journal) (numbered mid.journal) (ahead (setting_in old) mid.journal) (numbered new.journal) (ahead (setting_in old) new.journal)
     plan.most_records m most recovery (h.paid most recovery a b) hit.few (fewer-later (setting_in old) now mid (later-way now mid hit.under_way)) here (subst (λ z. ahead z new.journal < ahead z mid.journal) t fewer) a b
 
-pub begun-again : (plan : Plan) (old now mid new : WorldView) → IsAtRest old → IsBegun plan old now → IsHit plan.most_records now mid → IsHealed mid new → ahead (setting_in mid) new.journal < ahead (setting_in mid) mid.journal → Recovers mid new → KeepsGoing mid new → ((phase : ℕ) → KeepsShort phase mid new) → RecoversInTime mid new → IsBegun plan old new
-begun-again plan old now mid new rest h hit healed fewer heals goes short in_time =
+pub begun-again : (plan : Plan) (old now mid new : WorldView) → IsAtRest old → IsBegun plan old now → IsHit plan.most_records now mid → IsHealed mid new → ahead (setting_in mid) new.journal < ahead (setting_in mid) mid.journal → Recovers mid new → KeepsGoing mid new → ((phase : ℕ) → KeepsShort phase mid new) → RecoversInTime mid new → HoldsWords now mid → HoldsWords mid new → IsBegun plan old new
+begun-again plan old now mid new rest h hit healed fewer heals goes short in_time held holds =
     let later = later-then old mid new (later-then old now mid h.later (later-way now mid hit.under_way)) healed.later in
     let state : state_of new ≡ with_spawned (state_of old) (state_of new).spawned = healed.same ∙ ap (λ st. with_spawned st (state_of new).spawned) (rest_way now mid hit.under_way ∙ (at_rest now h.rest.last ∙ h.state)) in
     record {
@@ -145,6 +163,7 @@ begun-again plan old now mid new rest h hit healed fewer heals goes short in_tim
       goes = again-going plan old now mid new h hit goes;
       in_time = again-in_time plan old now mid new h hit in_time;
       short = again-short plan old now mid new h hit short;
+      holds = again_holds plan old now mid new rest h hit held holds;
     }
 
 pub cut-all : (plan : Plan) (old now mid new : WorldView) (x : Drove) → IsAtRest old → IsBegun plan old now → IsHit plan.most_records now mid → IsCutAt mid new x → ahead (setting_in mid) new.journal < ahead (setting_in mid) mid.journal → Recovers mid new → IsCutAt old new x × IsPaid plan old new 0
@@ -174,6 +193,11 @@ pub if_cut : (P P' : Type 0) (Q Q' : Drove → Type 0) → ((x : Drove) → Q x 
 if_cut P P' Q Q' f d.Done nope h = absurd (nope refl)
 if_cut P P' Q Q' f (d.Beyond grid row) nope h = f (d.Beyond grid row) h
 if_cut P P' Q Q' f (d.NoSpare rank) nope h = f (d.NoSpare rank) h
+
+pub cut_so : (P : Type 0) (Q : Drove → Type 0) (x : Drove) → (x ≡ d.Done → ⊥) → Q x → IfDrove P Q x
+cut_so P Q d.Done nope h = absurd (nope refl)
+cut_so P Q (d.Beyond grid row) nope h = h
+cut_so P Q (d.NoSpare rank) nope h = h
 
 pub cut_of : (P : Type 0) (Q : Drove → Type 0) (x : Drove) → (x ≡ d.Done → ⊥) → IfDrove P Q x → Q x
 cut_of P Q d.Done nope h = absurd (nope refl)

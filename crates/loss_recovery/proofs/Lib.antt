@@ -1,4 +1,5 @@
 pub mod Worlds
+pub mod Holding
 pub mod Scripted
 pub mod Carrying
 pub mod Saving

@@ -9,17 +9,19 @@ use Rattle.script_lines.specs.Lines.{IsTableOf, AreSound}
 use Rattle.run_laws.specs.Due.{numbered, has_fallen, ahead}
 use Rattle.run_laws.specs.LastCommit.{with_spawned}
 use Rattle.run_laws.specs.Cuts.{NoneGoesTooFar}
-use Rattle.run_laws.specs.Traces.{AreShort, AllHeal, AllHealSoFar, spent, recovery_under}
+use Rattle.run_laws.specs.Traces.{AreShort, AllHeal, AllHealSoFar, AlwaysHold, spent, recovery_under}
 use Rattle.run_laws.proofs.Losing.{ahead-later}
 use Rattle.run_laws.proofs.Going.{go_append, go_falls}
 use Rattle.run_laws.proofs.Shorts.{short_plain}
 use Rattle.run_laws.proofs.Healing.{heal-falls}
 use Rattle.block_world.specs.World.{WorldView, setting_in, state_of, is_due, fallen}
+use Rattle.block_world.proofs.HeldOnTheWay.{always-fallen}
+use Rattle.phase_words.specs.Resting.{IsMeasured}
 use Rattle.dist_matrix.specs.Site as site
 use Rattle.world_heal.specs.declared.healing.Drove.{Drove}
 use Rattle.world_heal.specs.Ways.{rest_of, IsLater}
 use Rattle.world_heal.specs.Outcomes.{IsCutAt, IsHealed}
-use Rattle.world_heal.specs.Costs.{Heals, KeepsGoing, KeepsShort, HealsInTime}
+use Rattle.world_heal.specs.Costs.{Heals, KeepsGoing, KeepsShort, HealsInTime, HoldsWords}
 use Rattle.world_heal.specs.Mended.{IsMendable, IsTable}
 use Rattle.world_heal.proofs.Later.{later-then}
 use Rattle.world_heal.proofs.Fallen as falling
@@ -106,3 +108,9 @@ module _ (w f : WorldView) (e : f ≡ fallen w) (due : is_due w ≡ true) where
       let so_far : AllHealSoFar recovery (setting_in w) f.journal =
       subst (λ j. AllHealSoFar recovery (setting_in w) j) (sym journal_fell) (heal-falls recovery (setting_in w) w.journal (setting_in w).losses (numbered w.journal) (omega (arith, le)) heals) in
       subst (λ s. AllHeal recovery s new.journal) setting_fell (h recovery (omega (arith, same, le)) (subst (λ s. AllHealSoFar recovery s f.journal) (sym setting_fell) so_far))
+
+  pub holds_from : (new : WorldView) → HoldsWords f new → HoldsWords w new
+  holds_from new h measured before =
+      let here : IsMeasured (setting_in f) (rest_of f) = subst (λ s. IsMeasured s (rest_of f)) (sym setting_fell) (subst (λ st. IsMeasured (setting_in w) st) (sym rest_fell) measured) in
+      let now : AlwaysHold (setting_in f) f.journal = subst (λ (v : WorldView). AlwaysHold (setting_in v) v.journal) (sym e) (always-fallen w before) in
+      subst (λ s. AlwaysHold s new.journal) setting_fell (h here now)

@@ -10,14 +10,18 @@ use Rattle.rank_machine.specs.Effect.{replay, current}
 use Rattle.rank_machine.specs.Marks.{follows}
 use Rattle.rank_machine.specs.Legal.{IsLegalFrom}
 use Rattle.run_laws.specs.Due.{numbered}
+use Rattle.run_laws.specs.LastCommit.{IsRest}
+use Rattle.phases.specs.Words.{HasRoom}
 use Rattle.block_world.specs.World.{WorldView, setting_in, state_of}
 use Rattle.phases.specs.declared.phase.Next.{Next}
 use Rattle.phases.specs.declared.phase.Next.TheVariants as n
 use Rattle.phases.specs.Plans.{Plan, Progress, at_start, took_with, handed, asked_by, is_end, records_in, steps_in, after_next, Brings, GoesFurther, GoesHome, GoesAs, GoesOn}
 use Rattle.world_heal.specs.Ways.{rest_of, IsUnderWay, IsHit}
+use Rattle.world_heal.specs.Costs.{HoldsWords}
 use Rattle.world_heal.proofs.Ways.{under_way-same, under_way-then, setting-way, round_links, round_taken, run_way}
-use Rattle.loss_recovery.specs.Driven.{CanCarry, HasCarried}
+use Rattle.loss_recovery.specs.Driven.{CanCarry, HasCarried, HoldsAlong}
 use Rattle.loss_recovery.specs.Steps.{HasBegun, IsRunOut}
+use Rattle.loss_recovery.proofs.Holding.{answer_holds}
 
 -- what is kept between two answers
 pub record IsRunning (plan : Plan) (Stands : Setting → State → State → Type 0) (progress : Progress) (tile : Option Tile) (old new : WorldView) : Type 0 where
@@ -126,3 +130,8 @@ module _ {K : Type 0} where
     few = omega (arith, hit.few, h.count, g.few);
     due = hit.due;
   }
+
+  -- an answer adds no more words than there is room for, however far it was carried out
+  pub running_holds : (plan : Plan) (Stands Stands' : Setting → State → State → Type 0) (p p' : Progress) (tile : Option Tile) (x : Next K) (old mid new : WorldView) → IsRunning plan Stands p tile old mid
+      → IsRest (setting_in old) (rest_of old) → HasRoom plan.most_words (setting_in old) (rest_of old) → GoesOn plan Stands' p' (setting_in old) (rest_of old) (state_of mid) x → HoldsAlong (records_in x) mid new → HoldsWords old mid → HoldsWords old new
+  running_holds plan Stands Stands' p p' tile x old mid new h rest room g along before = answer_holds plan Stands' p' x old mid new h.under_way h.mark rest room g along before

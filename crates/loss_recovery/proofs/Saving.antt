@@ -9,14 +9,16 @@ use Rattle.rank_machine.specs.State.{State}
 use Rattle.rank_machine.specs.Effect.{after, replay}
 use Rattle.rank_machine.specs.Legal.{IsLegalRec, IsLegalFrom}
 use Rattle.run_laws.specs.Due.{numbered}
+use Rattle.run_laws.specs.Traces.{AllHold}
 use Rattle.run_laws.proofs.Journals.{replay-append, IsLegalFrom-later}
 use Rattle.block_world.specs.World.{WorldView, setting_in, state_of}
 use Rattle.block_world.specs.Did.{IsMade, IsStopped}
 use Rattle.phases.specs.Plans.{saves}
 use Rattle.world_heal.specs.Ways.{IsUnderWay, IsHit}
 use Rattle.world_heal.proofs.Ways.{under_way-then, setting-way}
-use Rattle.loss_recovery.specs.Driven.{HasCome}
+use Rattle.loss_recovery.specs.Driven.{HasCome, HoldsAlong}
 use Rattle.loss_recovery.proofs.Worlds.{come-same, come-one}
+use Rattle.loss_recovery.proofs.Holding.{holds_one, holds_kept, saves_hold}
 
 module _ {X : Type 0} where
   split_at : (xs : List X) (i : ℕ) (x : X) → slice_get xs i ≡ Some x → xs ≡ take i xs ++ x ∷ drop (suc i) xs
@@ -59,9 +61,10 @@ saves-append (x ∷ xs) ys = ap (λ zs. r.Save x.0 x.1 ∷ zs) (saves-append xs 
 pub record IsSaving (listed : List (ℕ × Slot)) (i : ℕ) (old new : WorldView) : Type 0 where
   pub come : HasCome (replay (setting_in old) (state_of old) (saves (take i listed))) i old new
   pub within : i ≤ length listed
+  pub holds : HoldsAlong (saves listed) old new
 
 pub saving_begins : (listed : List (ℕ × Slot)) (w : WorldView) → IsSaving listed 0 w w
-saving_begins listed w = record { come = come-same w; within = omega arith }
+saving_begins listed w = record { come = come-same w; within = omega arith; holds = λ along before. before }
 
 -- the next one can be saved
 pub saving_legal : (listed : List (ℕ × Slot)) (i rank : ℕ) (slot : Slot) (old new : WorldView) → IsSaving listed i old new → IsLegalFrom (setting_in old) (state_of old) (saves listed) → slice_get listed i ≡ Some (rank, slot)
@@ -85,12 +88,21 @@ saving_goes_on listed i rank slot old mid new h e gone =
     sym (replay-append (setting_in old) (state_of old) (saves (take i listed)) (r.Save rank slot ∷ []))
     ∙ ap (replay (setting_in old) (state_of old)) (sym (ap saves (take_more listed i (rank, slot) e) ∙ saves-append (take i listed) ((rank, slot) ∷ []))) in
     let next : i + 1 ≡ suc i = omega arith in
-    rw next (record { come = subst (λ st. HasCome st (suc i) old new) all (rw (sym next) there); within = omega (arith, below_length listed i (rank, slot) e) })
+    let come : HasCome (replay (setting_in old) (state_of old) (saves (take (suc i) listed))) (suc i) old new = subst (λ st. HasCome st (suc i) old new) all (rw (sym next) there) in
+    rw next (record {
+      come = come;
+      within = omega (arith, below_length listed i (rank, slot) e);
+      holds = λ along. holds_one old mid new (r.Save rank slot) h.come.under_way gone.noted
+          (subst (λ st. AllHold (setting_in old) st) (sym come.state) (saves_hold (setting_in old) (state_of old) listed (suc i) along)) (h.holds along);
+    })
 
 pub saving_stops : (listed : List (ℕ × Slot)) (i rank : ℕ) (slot : Slot) (old mid new : WorldView) → IsSaving listed i old mid → slice_get listed i ≡ Some (rank, slot) → IsStopped mid new → IsHit (length listed) old new
 saving_stops listed i rank slot old mid new h e stop =
     subst (λ w. IsHit (length listed) old w) (sym stop.kept)
     (record { under_way = h.come.under_way; few = omega (arith, h.come.count, below_length listed i (rank, slot) e); due = stop.due })
+
+pub stopped_holds : (listed : List (ℕ × Slot)) (i : ℕ) (old mid new : WorldView) → IsSaving listed i old mid → IsStopped mid new → HoldsAlong (saves listed) old new
+stopped_holds listed i old mid new h stop along = holds_kept old mid new stop.kept (h.holds along)
 
 pub saving_ends : (listed : List (ℕ × Slot)) (i : ℕ) (old new : WorldView) → IsSaving listed i old new → slice_get listed i ≡ None → HasCome (replay (setting_in old) (state_of old) (saves listed)) (length listed) old new
 saving_ends listed i old new h e =

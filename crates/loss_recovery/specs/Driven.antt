@@ -8,7 +8,7 @@ use Rattle.rank_machine.specs.Effect.{replay}
 use Rattle.rank_machine.specs.Legal.{IsLegalFrom}
 use Rattle.run_laws.specs.Due.{numbered}
 use Rattle.run_laws.specs.LastCommit.{since, IsRest}
-use Rattle.run_laws.specs.Traces.{spent, recovery_under}
+use Rattle.run_laws.specs.Traces.{HoldFrom, spent, recovery_under}
 use Rattle.block_world.specs.World.{WorldView, setting_in, state_of}
 use Rattle.world_heal.specs.declared.healing.Drove.{Drove}
 use Rattle.world_heal.specs.declared.healing.Drove.TheVariants as d
@@ -16,7 +16,8 @@ use Rattle.phases.specs.declared.phase.Next.{Next}
 use Rattle.phases.specs.Plans.{Plan, Progress, handed, records_in, steps_in, is_end, asked_by, Brings}
 use Rattle.dist_matrix.specs.Site.{SiteView}
 use Rattle.world_heal.specs.Ways.{IsLater, IsUnderWay}
-use Rattle.world_heal.specs.Costs.{KeepsGoing, KeepsShort, KeepsHealing}
+use Rattle.world_heal.specs.Costs.{KeepsGoing, KeepsShort, KeepsHealing, KeepsHolding, HoldsWords}
+use Rattle.phase_words.specs.Resting.{IsMeasured}
 
 -- what a driver of commands knows of a world: its script, and the last mark
 abbrev pub site_at : WorldView → SiteView
@@ -45,6 +46,15 @@ Recovers old new = let most = recovery_under (setting_in old) (state_of old).mar
 -- where losses fall first, each healed commit still comes in time
 abbrev pub RecoversInTime : WorldView → WorldView → Type 0
 RecoversInTime old new = (recovery : ℕ) → recovery_under (setting_in old) (state_of old).mark ≤ recovery → KeepsHealing recovery old new
+
+-- ---- words
+-- where each rank holds at most what it may in the states that some records lead through, it does so in every state on the way
+abbrev pub HoldsAlong : List Rec → WorldView → WorldView → Type 0
+HoldsAlong records old new = HoldFrom (setting_in old) (state_of old) records → KeepsHolding old new
+
+-- it does so where what the last commit left is measured, and what the phase's own commit left
+abbrev pub HoldsDriven : WorldView → WorldView → Type 0
+HoldsDriven old new = IsMeasured (setting_in old) (state_of new) → HoldsWords old new
 
 -- ---- inside a phase
 -- exactly so many, which led to this state

@@ -5,12 +5,12 @@ ghost use Rattle.run_laws.specs.Due.{ahead};
 ghost use Rattle.run_laws.specs.Traces.{recovery_under};
 ghost use Rattle.block_world.specs.World.{setting_in, state_of, is_due};
 ghost use Rattle.phases.specs.declared.phase.Next.TheVariants.{End};
-ghost use Rattle.phases.specs.Plans.{CanStart, at_start, saves, steps_in};
+ghost use Rattle.phases.specs.Plans.{CanStart, at_start, saves, records_in, steps_in};
 ghost use Rattle.world_heal.specs.Ways.{IfDone, rest_of, IsHit};
 ghost use Rattle.world_heal.specs.Outcomes.{IfDrove, IsCutAt, IsHealed};
-ghost use Rattle.world_heal.specs.Costs.{KeepsGoing, KeepsShort};
+ghost use Rattle.world_heal.specs.Costs.{KeepsGoing, KeepsShort, HoldsWords};
 ghost use Rattle.world_heal.specs.Mended.{IsMendable};
-ghost use Rattle.loss_recovery.specs.Driven.{site_at, IsAtRest, CostsAtMost, RecoversInTime, Recovers, cost_of, HasCome, CanCarry, HasCarried, IsDriven, IsStraight};
+ghost use Rattle.loss_recovery.specs.Driven.{site_at, IsAtRest, CostsAtMost, RecoversInTime, Recovers, cost_of, HasCome, CanCarry, HasCarried, IsDriven, IsStraight, HoldsAlong, HoldsDriven};
 ghost use Rattle.loss_recovery.specs.Steps.{IfCarried, IsRunOut, HasBegun};
 
 use block_world::{Did, Order, Ran, Taken, Tile, World};
@@ -34,7 +34,8 @@ pub enum Carried {
 fn save_all<K: Field, H: Phase<K>>(world: &mut World<'_, K>, phase: &H) -> Result<Did, NoMemory>
     requires rest { IsAtRest world.old }
     requires may { CanStart (H.plan (H.task phase.now)) (setting_in world.old) (state_of world.old) }
-    ensures { IfOk result (IfDone (HasCome (replay (setting_in world.old) (state_of world.old) (saves (H.plan (H.task phase.now)).listed)) (length (H.plan (H.task phase.now)).listed) world.old world.new) (IsHit (length (H.plan (H.task phase.now)).listed) world.old world.new)) }
+    ensures saves { IfOk result (IfDone (HasCome (replay (setting_in world.old) (state_of world.old) (saves (H.plan (H.task phase.now)).listed)) (length (H.plan (H.task phase.now)).listed) world.old world.new) (IsHit (length (H.plan (H.task phase.now)).listed) world.old world.new)) }
+    ensures holds { OnOk result (HoldsAlong (saves (H.plan (H.task phase.now)).listed) world.old world.new) }
 {
     let mut i = 0u32;
     while let Some((rank, slot)) = phase.save_at(i) {
@@ -54,7 +55,8 @@ fn carry_out<K: Field>(
     next: Next<K>,
 ) -> Result<Carried, NoMemory>
     requires { CanCarry world.old next }
-    ensures { IfOk result (IfCarried next (HasCarried world.old world.new next) (world.new ≡ world.old) (IsHit (steps_in next) world.old world.new)) }
+    ensures carried { IfOk result (IfCarried next (HasCarried world.old world.new next) (world.new ≡ world.old) (IsHit (steps_in next) world.old world.new)) }
+    ensures holds { OnOk result (HoldsAlong (records_in next) world.old world.new) }
 {
     match next {
         Next::Round(round) => match world.run(&round, order)? {
@@ -85,6 +87,7 @@ fn run_all<K: Field, H: Phase<K>>(
     requires begins { HasBegun world.old }
     ensures same_task { OnOk result (H.task phase.new ≡ H.task phase.old) }
     ensures runs { IfOk result (IfDone (IsRunOut (H.plan (H.task phase.old)) (H.progress phase.new) world.old world.new) (IsHit ((H.plan (H.task phase.old)).most_records - length (H.plan (H.task phase.old)).listed) world.old world.new)) }
+    ensures holds { OnOk result (HoldsWords world.old world.new) }
 {
     let mut taken = None;
     loop {
@@ -107,6 +110,7 @@ fn attempt<K: Field, H: Phase<K>>(
     requires may { (H.plan (H.task phase.old)).MayDrive (setting_in world.old) (state_of world.old) }
     ensures same_task { OnOk result (H.task phase.new ≡ H.task phase.old) }
     ensures driven { IfOk result (IfDone (IsStraight (H.plan (H.task phase.old)) (H.progress phase.new) world.old world.new) (IsHit (H.plan (H.task phase.old)).most_records world.old world.new)) }
+    ensures holds { IfOk result (IfDone (HoldsDriven world.old world.new) (HoldsWords world.old world.new)) }
 {
     phase.start();
     match save_all(world, phase)? {
@@ -137,6 +141,7 @@ fn recover<K: Field>(
     ensures in_time { OnOk result (RecoversInTime world.old world.new) }
     ensures goes { OnOk result (KeepsGoing world.old world.new) }
     ensures short { OnOk result ((phase : ℕ) → KeepsShort phase world.old world.new) }
+    ensures holds { OnOk result (HoldsWords world.old world.new) }
 {
     world.fall();
     let _running = world.journal();
@@ -149,7 +154,8 @@ fn recover<K: Field>(
 /// setting is to be one whose lost ranks can be mended, as an accepted script gives. The site is that of the world's script and last
 /// mark, before and after. Done: the phase's effect holds between the state of that commit and that of its own, and the takes that it
 /// was handed are, in order, the committed ones that were added. Beyond and NoSpare: the run is cut short exactly where losses fell
-/// that it cannot survive, and no plain commit was made. After an error nothing is promised of the site.
+/// that it cannot survive, and no plain commit was made. In every state on the way each rank holds at most the words that it may,
+/// where what the last commit left is measured, and what the phase's own commit left. After an error nothing is promised of the site.
 pub fn drive<K: Field, H: Phase<K>>(
     alloc: Global,
     world: &mut World<'_, K>,
@@ -171,6 +177,7 @@ pub fn drive<K: Field, H: Phase<K>>(
     ensures in_time { OnOk result (RecoversInTime world.old world.new) }
     ensures goes { OnOk result (KeepsGoing world.old world.new) }
     ensures short { OnOk result ((most : ℕ) → (H.plan (H.task phase.old)).most_records ≤ most → KeepsShort most world.old world.new) }
+    ensures holds { IfOk result (IfDrove (HoldsDriven world.old world.new) (λ cut. HoldsWords world.old world.new)) }
 {
     loop {
         match attempt(world, order, phase)? {

@@ -3,7 +3,7 @@ pub mod OneRead
 pub mod Steps
 pub mod Files
 pub mod Answered
-pub mod Named
 pub mod Runnable
+pub mod CommandsLeft
 pub mod SerialReady
 pub mod SerialRun

@@ -22,9 +22,9 @@ use Rattle.serial_machine.specs.Values.{IsMatrix}
 use Rattle.serial_machine.specs.Ready.{IsShort, HasMatrix, CanPrint, AreReady, CanRun}
 use Rattle.serial_machine.specs.Ready as ready
 use Rattle.script_rules.specs.Rules.{command_on, maker_command, is_matrix_line, is_list_line}
-use Rattle.run_records.specs.RunText.{LinesRise}
-use Rattle.run_records.proofs.Names.{commands-rise, IsLeft, all_left, next_left, maker-here}
-use Rattle.script_run.proofs.AcceptedCommands.{AreThere, there-all, there-first, there-later}
+use Rattle.script_recovery.proofs.GridsAt.{LinesRise, commands-rise}
+use Rattle.scalapack_top.proofs.CommandsLeft.{IsLeft, all_left, next_left, maker-here}
+use Rattle.script_run.proofs.EachCommand.{AreThere, there-all, there-first, there-later}
 use Rattle.scalapack_top.specs.Read.{HasFile}
 
 -- ---- what values fit the lines that made them

@@ -17,7 +17,7 @@ use Rattle.script_bounds.proofs.Limits.{HasSizes}
 use Rattle.script_bounds.proofs.Operands.{pgemm_operands, ptrsm_operands, pgetrf_operands, pgetrs_operands, pgetrs_list, pgemr2d_operands, pivots_kept}
 use Rattle.scalapack_top.specs.declared.words.Machine.TheVariants as machine
 use Rattle.scalapack_top.specs.Read.{FileFits, IsReady}
-use Rattle.scalapack_top.proofs.Named.{matrix-named, list-named, print-matrix, print-named}
+use Rattle.script_run.proofs.Named.{matrix-named, list-named, print-matrix, print-named}
 use Rattle.scalapack_top.proofs.SerialReady.{rows_made, columns_made, AsksProduct, AsksTriangle, AsksFactor, AsksSolve, AsksCopy, AsksPrint, AsksPivots, Asks, ready_all}
 
 -- ---- the matrix that a name means has the rows and the columns of its line

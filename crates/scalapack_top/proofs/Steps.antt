@@ -21,6 +21,8 @@ use Rattle.scalapack_top.proofs.OneRead.{then_reads, rest_of, told_rest, answer_
 pub later_caused : (f0 f1 f2 l0 l1 l2 : ℕ) (e : Status) → f0 ≤ f1 → l0 ≤ l1 → IsCaused f1 f2 l1 l2 e → IsCaused f0 f2 l0 l2 e
 later_caused f0 f1 f2 l0 l1 l2 status.NoMemory a b h = tt
 later_caused f0 f1 f2 l0 l1 l2 status.Done a b h = tt
+later_caused f0 f1 f2 l0 l1 l2 (status.Beyond grid row) a b h = tt
+later_caused f0 f1 f2 l0 l1 l2 (status.NoSpare rank) a b h = tt
 later_caused f0 f1 f2 l0 l1 l2 status.Usage a b h = tt
 later_caused f0 f1 f2 l0 l1 l2 status.WriteFault a b h = tt
 later_caused f0 f1 f2 l0 l1 l2 (status.ReadFault file) a b h = omega (arith, h)
@@ -83,6 +85,8 @@ module _ (m : Machine) (name : List ℕ) (t t1 : Option Held) (f f1 l l1 : ℕ) 
     made_both status.NoMemory due made h = (h.0, ap (λ ns. name ∷ ns) h.1)
     made_both status.WriteFault due made h = (h.0, ap (λ ns. name ∷ ns) h.1)
     made_both status.Done due made h = ap (λ ns. name ∷ ns) h
+    made_both (status.Beyond grid row) due made h = ap (λ ns. name ∷ ns) h
+    made_both (status.NoSpare rank) due made h = ap (λ ns. name ∷ ns) h
     made_both status.Usage due made h = ap (λ ns. name ∷ ns) h
     made_both (status.ReadFault file) due made h = ap (λ ns. name ∷ ns) h
     made_both (status.Refused file line code) due made h = ap (λ ns. name ∷ ns) h

@@ -12,6 +12,8 @@ use Rattle.scalapack_top.specs.Readings.{after_read}
 abbrev pub FailsAs : {Y : Type 0} → Status → Result Y Status → Type 0
 FailsAs status.NoMemory due = Unit {0}
 FailsAs status.Done due = ⊥
+FailsAs (status.Beyond grid row) due = ⊥
+FailsAs (status.NoSpare rank) due = ⊥
 FailsAs status.WriteFault due = ⊥
 FailsAs status.Usage due = due ≡ Err status.Usage
 FailsAs (status.ReadFault file) due = due ≡ Err (status.ReadFault file)
@@ -27,6 +29,8 @@ abbrev pub IsCaused : ℕ → ℕ → ℕ → ℕ → Status → Type 0
 IsCaused faults faults' longs longs' (status.ReadFault file) = Rose faults faults'
 IsCaused faults faults' longs longs' (status.Refused file line code) = code ≡ pos 12 → Rose longs longs'
 IsCaused faults faults' longs longs' status.Done = Unit {0}
+IsCaused faults faults' longs longs' (status.Beyond grid row) = Unit {0}
+IsCaused faults faults' longs longs' (status.NoSpare rank) = Unit {0}
 IsCaused faults faults' longs longs' status.Usage = Unit {0}
 IsCaused faults faults' longs longs' status.WriteFault = Unit {0}
 IsCaused faults faults' longs longs' status.NoMemory = Unit {0}
@@ -37,6 +41,8 @@ IsFailure status.NoMemory = Unit {0}
 IsFailure (status.Refused file line code) = Unit {0}
 IsFailure (status.ReadFault file) = Unit {0}
 IsFailure status.Done = ⊥
+IsFailure (status.Beyond grid row) = ⊥
+IsFailure (status.NoSpare rank) = ⊥
 IsFailure status.Usage = ⊥
 IsFailure status.WriteFault = ⊥
 
@@ -45,6 +51,8 @@ abbrev pub IsOfText : Status → Type 0
 IsOfText status.NoMemory = Unit {0}
 IsOfText (status.Refused file line code) = code ≢ pos 12
 IsOfText status.Done = ⊥
+IsOfText (status.Beyond grid row) = ⊥
+IsOfText (status.NoSpare rank) = ⊥
 IsOfText status.Usage = ⊥
 IsOfText status.WriteFault = ⊥
 IsOfText (status.ReadFault file) = ⊥

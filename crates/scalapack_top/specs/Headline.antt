@@ -1,5 +1,5 @@
 -- What the top call promises: its table of answers.
-use Rattle.std.specs.Prelude.{◌≡◌, ◌≢◌, ℕ, ◌≤◌, List, [], Option, None, Ok, Err}
+use Rattle.std.specs.Prelude.{◌≡◌, ◌≢◌, ℕ, ◌≤◌, List, [], ◌++◌, Option, None, Ok, Err}
 use Rattle.io_edge.specs.Shelf.{Held}
 use Rattle.run_data.specs.Script.{commands_of}
 use Rattle.rank_machine.specs.Scripts.{file_of}
@@ -14,16 +14,24 @@ use Rattle.scalapack_top.specs.Input.{Input, input_of}
 use Rattle.scalapack_top.specs.Status.{error_text}
 use Rattle.scalapack_top.specs.Causes.{IsCaused}
 use Rattle.scalapack_top.specs.Writes.{Output}
-use Rattle.scalapack_top.specs.Run.{IsWholeRun}
+use Rattle.whole_run.specs.WholeRun.{Ending, done, beyond, no_spare, IsRunOf, Completes}
 
 -- nothing but the text on err
 abbrev pub IsEnd : Status → Output → Type 0
 IsEnd answer output = output ≡ record { out = []; err = error_text answer; journal = [] }
 
--- a whole run of an input on the ranks, and nothing on err
+-- a run of an input on the ranks that ended so, to its end or cut short: the text of the serial run begins with what was printed; a script whose losses leave time between them, with
+-- spares for all of them, goes to its end; and on err stands the text of the answer
+pub record IsRan (input : Input) (ending : Ending) (answer : Status) (output : Output) : Type 0 where
+  pub run : IsRunOf input.script input.files ending output.out output.journal
+  pub begins : (rest : List ℕ) × (serial_text (file_of input.files) (commands_of input.script) ≡ output.out ++ rest)
+  pub complete : Completes input.script input.files ending
+  pub err : output.err ≡ error_text answer
+
+-- a whole run of an input on the ranks: the printed text is that of the serial run of the whole script
 pub record IsDone (input : Input) (output : Output) : Type 0 where
-  pub run : IsWholeRun input.script input.files output.out output.journal
-  pub silent : output.err ≡ []
+  pub ran : IsRan input done status.Done output
+  pub serial : output.out ≡ serial_text (file_of input.files) (commands_of input.script)
 
 -- the text of the serial run of an input, and nothing on err and in the journal
 pub record IsDoneSerially (input : Input) (output : Output) : Type 0 where
@@ -36,10 +44,20 @@ abbrev pub IsDoneBy : Machine → Input → Output → Type 0
 IsDoneBy machine.Ranks input output = IsDone input output
 IsDoneBy machine.Serial input output = IsDoneSerially input output
 
+-- the same where it was cut short: the printed text is that of the lines that had ended; a serial run never is
+abbrev pub IsCutBy : Machine → Input → Ending → Status → Output → Type 0
+IsCutBy machine.Ranks input ending answer output = IsRan input ending answer output
+IsCutBy machine.Serial input ending answer output = ⊥
+
 -- What an answer says, for what runs the script, the words and what the reads answer, and what is to be written then.
 abbrev pub IsAnswer : Machine → List (List ℕ) → Readings → Status → Output → Type 0
 -- a whole run of the input that the words and the files that were read give
 IsAnswer m words readings status.Done output = (script_name words ≢ None) × ((input : Input) × (input_of words readings ≡ Ok input) × IsDoneBy m input output)
+-- a run of that input that was cut short
+IsAnswer m words readings (status.Beyond grid row) output =
+    (script_name words ≢ None) × ((input : Input) × (input_of words readings ≡ Ok input) × IsCutBy m input (beyond grid row) (status.Beyond grid row) output)
+IsAnswer m words readings (status.NoSpare rank) output =
+    (script_name words ≢ None) × ((input : Input) × (input_of words readings ≡ Ok input) × IsCutBy m input (no_spare rank) (status.NoSpare rank) output)
 -- the words are of no form
 IsAnswer m words readings status.Usage output = (script_name words ≡ None) × IsEnd status.Usage output
 -- the files that were read give this fault, or this refusal, first

@@ -5,7 +5,6 @@ pub mod Input
 pub mod Reads
 pub mod Causes
 pub mod Writes
-pub mod Run
 pub mod Headline
 pub mod Read
 pub mod Work

@@ -43,6 +43,8 @@ names_of words readings = names_for (machine_of words) (script_name words) readi
 -- the names that were read are those that are due; where memory ran out they are some first ones of these, and where a put failed too, which may be that of the text for want of memory
 abbrev pub AreMade : Status → List (List ℕ) → List (List ℕ) → Type 0
 AreMade status.Done due made = due ≡ made
+AreMade (status.Beyond grid row) due made = due ≡ made
+AreMade (status.NoSpare rank) due made = due ≡ made
 AreMade (status.Refused file line code) due made = due ≡ made
 AreMade status.Usage due made = due ≡ made
 AreMade (status.ReadFault file) due made = due ≡ made

@@ -5,10 +5,10 @@ ghost use Rattle.scalapack_top.specs.Words.{texts, runs_serially, machine_of, sc
 ghost use Rattle.scalapack_top.specs.Reads.{HasRead};
 ghost use Rattle.scalapack_top.specs.Read.{status_of};
 ghost use Rattle.scalapack_top.specs.Writes.{Output, AllPut, written};
-ghost use Rattle.scalapack_top.specs.Status.{error_text};
+ghost use Rattle.scalapack_top.specs.Status.{error_text, answer_of};
 ghost use Rattle.scalapack_top.specs.Causes.{IsFailure, IsCaused};
 ghost use Rattle.scalapack_top.specs.Headline.{IsAnswered, HasCause};
-ghost use Rattle.scalapack_top.specs.Work.{error_of, output_of, IsRanBy, HasFailed, HasReadFor};
+ghost use Rattle.scalapack_top.specs.Work.{error_of, output_of, IsWorkOf, IsRanBy, HasFailed, HasReadFor};
 
 use crate::input::read_input;
 use crate::run::run;
@@ -17,7 +17,7 @@ use crate::words::{Machine, places_of, text_at};
 use crate::writes::write;
 use io_edge::{Shelf, Sink};
 use itoa::Buffer;
-use script_run::Ran;
+use script_run::{Drove, Ran};
 use std::alloc::{AllocError, Global};
 
 /// What the work came to, and its texts. `made` is the text on err where that isn't fixed.
@@ -59,6 +59,26 @@ fn fault_text(alloc: Global, file: u32) -> Result<Vec<u8>, AllocError>
     Ok(out)
 }
 
+fn beyond_text(alloc: Global, grid: u32, row: u32) -> Result<Vec<u8>, AllocError>
+    ensures { IfOk result (λ v. v.items ≡ error_text (Status.Beyond grid row)) }
+{
+    let mut out = Vec::from_slice(alloc, b"beyond grid ")?;
+    add_number(&mut out, grid)?;
+    out.extend_from_slice(b" row ")?;
+    add_number(&mut out, row)?;
+    out.push(b'\n')?;
+    Ok(out)
+}
+
+fn no_spare_text(alloc: Global, rank: u32) -> Result<Vec<u8>, AllocError>
+    ensures { IfOk result (λ v. v.items ≡ error_text (Status.NoSpare rank)) }
+{
+    let mut out = Vec::from_slice(alloc, b"no spare rank ")?;
+    add_number(&mut out, rank)?;
+    out.push(b'\n')?;
+    Ok(out)
+}
+
 // The text of an answer, where it isn't fixed.
 fn made_text(alloc: Global, answer: Status) -> Result<Vec<u8>, AllocError>
     ensures { IfOk result (λ v. error_of answer v.items ≡ error_text answer) }
@@ -66,7 +86,22 @@ fn made_text(alloc: Global, answer: Status) -> Result<Vec<u8>, AllocError>
     match answer {
         Status::Refused { file, line, code } => refused_text(alloc, file, line, code),
         Status::ReadFault { file } => fault_text(alloc, file),
+        Status::Beyond { grid, row } => beyond_text(alloc, grid, row),
+        Status::NoSpare { rank } => no_spare_text(alloc, rank),
         Status::Done | Status::Usage | Status::WriteFault | Status::NoMemory => Ok(Vec::new(alloc)),
+    }
+}
+
+// Want of memory.
+fn no_memory(alloc: Global) -> Work
+    ensures answer { result.answer ≡ Status.NoMemory }
+    ensures output { output_of result ≡ record { out = []; err = error_text Status.NoMemory; journal = [] } }
+{
+    Work {
+        answer: Status::NoMemory,
+        out: Vec::new(alloc),
+        made: Vec::new(alloc),
+        journal: Vec::new(alloc),
     }
 }
 
@@ -82,12 +117,34 @@ fn ended(alloc: Global, answer: Status) -> Work
             made,
             journal: Vec::new(alloc),
         },
-        Err(_) => Work {
-            answer: Status::NoMemory,
-            out: Vec::new(alloc),
-            made: Vec::new(alloc),
-            journal: Vec::new(alloc),
+        Err(_) => no_memory(alloc),
+    }
+}
+
+// How a run ended, as an answer.
+fn answer_of(ending: Drove) -> Status
+    ensures { result ≡ answer_of ending }
+{
+    match ending {
+        Drove::Done => Status::Done,
+        Drove::Beyond { grid, row } => Status::Beyond { grid, row },
+        Drove::NoSpare { rank } => Status::NoSpare { rank },
+    }
+}
+
+// The answer of a run, or want of memory for its text.
+fn finished(alloc: Global, ran: Ran) -> Work
+    ensures { IsWorkOf ran result }
+{
+    let answer = answer_of(ran.ending);
+    match made_text(alloc, answer) {
+        Ok(made) => Work {
+            answer,
+            out: ran.out,
+            made,
+            journal: ran.journal,
         },
+        Err(_) => no_memory(alloc),
     }
 }
 
@@ -139,12 +196,7 @@ fn answer_words<F: Shelf>(alloc: Global, words: &[String], shelf: &mut F) -> Wor
         return usage(alloc);
     };
     match run_named(alloc, places.machine, shelf, text_at(words, places.script)) {
-        Ok(ran) => Work {
-            answer: Status::Done,
-            out: ran.out,
-            made: Vec::new(alloc),
-            journal: ran.journal,
-        },
+        Ok(ran) => finished(alloc, ran),
         Err(e) => ended(alloc, e),
     }
 }
@@ -172,6 +224,8 @@ fn error_bytes(work: &Work) -> &[u8]
 /// files in line order are read and checked, each before the next is read; the first fault or refusal is the answer.
 /// A script with a line that the ranks can't run is refused at the first such line, for the words that run the ranks alone: after
 /// its own rules, and before a matrix file is read.
+/// A run on the ranks goes over the losses that the script says. Done: the printed text is that of the serial run. Beyond and NoSpare:
+/// losses fell that the run can't survive, and what was printed is the text of the lines that had ended.
 /// Nothing is written before all is made: then out, err and journal get their bytes in this order, each by one put, and a put of
 /// no bytes isn't made. The first put that fails makes the answer `WriteFault`, and nothing is put after it.
 pub fn scalapack<F: Shelf, O: Sink, E: Sink, J: Sink>(

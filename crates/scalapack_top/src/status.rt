@@ -18,6 +18,12 @@ pub enum Status {
     WriteFault,
     /// Memory ran out.
     NoMemory,
+    /// The run was cut short: a process row of a grid that holds something live lost more ranks than it has code columns. The first
+    /// such grid, and its first such row, both from 0. What the lines that had ended printed, and the journal, were written.
+    Beyond { grid: u32, row: u32 },
+    /// The run was cut short: no spare rank was left for a lost one. The first that got none, from 0. What the lines that had ended
+    /// printed, and the journal, were written.
+    NoSpare { rank: u32 },
 }
 
 impl Status {
@@ -32,6 +38,8 @@ impl Status {
             Status::ReadFault { .. } => 3,
             Status::WriteFault => 4,
             Status::NoMemory => 5,
+            Status::Beyond { .. } => 6,
+            Status::NoSpare { .. } => 7,
         }
     }
 }

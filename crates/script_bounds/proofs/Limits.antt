@@ -11,12 +11,12 @@ use Rattle.std.proofs.lemmas.Str.{IsUtf8-from_is_utf8}
 use Rattle.array_desc.specs.Descriptors.{is_between_one_and, desc_of, IsDesc}
 use Rattle.blacs_grid.specs.Limits.{process_limit, code_column_limit, rank_limit, IsGrid}
 use Rattle.run_data.specs.declared.command.Command.{Command}
-use Rattle.run_data.specs.declared.command.Command.TheVariants.{Grid, Matrix, Print, Discard, Pgetrf, Links}
+use Rattle.run_data.specs.declared.command.Command.TheVariants.{Grid, Matrix, Print, Discard, Pgetrf, Links, Lose}
 use Rattle.run_data.specs.Script.{Numbered, commands_of, command_at, maker, is_grid_line, grids_before, number_of, meant, name_in, operand}
 use Rattle.run_data.proofs.Lines.{said, command_at-before, command_at-commands_from}
 use Rattle.script_words.specs.declared.kinds.Kind.TheVariants.{NewName, GridName, MatrixName, ThingName, FileName}
 use Rattle.script_rules.specs.declared.layouts.Layout.{Layout}
-use Rattle.script_rules.specs.Rules.{live_matrices, matrix_lines, command_on, maker_command, is_matrix_line, is_list_line, process_rows, process_columns, layout_on, layout_made, layout_of, factored_made, ranks_of, ranks_made, word_rules, grid_rules, matrix_rules, link_lines, links_rules, rules}
+use Rattle.script_rules.specs.Rules.{live_matrices, matrix_lines, command_on, maker_command, is_matrix_line, is_list_line, process_rows, process_columns, layout_on, layout_made, layout_of, factored_made, ranks_of, ranks_made, word_rules, grid_rules, matrix_rules, link_lines, links_rules, lose_rules, rules}
 use Rattle.script_words.specs.Tables.{first_code}
 use Rattle.script_words.specs.Limits.{capacity_limit}
 use Rattle.script_rules.specs.Told.{told_without_losses}
@@ -111,6 +111,12 @@ pub links_kept : (script : List (Option Command)) (line n : ℕ) → KeepsRules 
 links_kept script line n h e =
     let on = OnLine-from_command_at script line (Links n) e in
     between capacity_limit n (all_kept (links_rules (link_lines (commands_of (take on.place script))) n) (kept_on script on.place (Links n) h on.said).own).0
+
+-- a rank that is lost is one of the script's grids
+pub lose_kept : (script : List (Option Command)) (line at rank : ℕ) → KeepsRules script → command_at (commands_of script) line ≡ Some (Lose at rank) → rank < ranks_of (commands_of script)
+lose_kept script line at rank h e =
+    let on = OnLine-from_command_at script line (Lose at rank) e in
+    ltb-true rank (ranks_of (commands_of script)) (all_kept (lose_rules (ranks_of (commands_of script)) rank) (kept_on script on.place (Lose at rank) h on.said).own).0
 
 -- the command that a name means stands on a line
 made_on : (cs : List Numbered) (line : ℕ) (name : List ℕ) (c : Command) → maker_command cs line name ≡ Some c → (at : ℕ) × (command_at cs at ≡ Some c)
@@ -297,26 +303,6 @@ run_from (n ∷ ns) line c f e = runs_by n c (command_at ns line) (first_unrunna
 pub run_kept : (script : List (Option Command)) (line : ℕ) (c : Command) → first_unrunnable (commands_of script) ≡ None → command_at (commands_of script) line ≡ Some c → can_run c ≡ true
 run_kept script line c f e = run_from (commands_of script) line c f e
 
--- their grids have no code columns
-pub no_code_columns : (script : List (Option Command)) (line : ℕ) (name : List ℕ) (p q f : ℕ) → first_unrunnable (commands_of script) ≡ None → command_at (commands_of script) line ≡ Some (Grid name p q f) → f ≡ 0
-no_code_columns script line name p q f r e = eqb-true f 0 (run_kept script line (Grid name p q f) r e)
-
--- no line makes a list
-no_lists : (script : List (Option Command)) (line : ℕ) (name : List ℕ) → first_unrunnable (commands_of script) ≡ None → is_list_line (maker_command (commands_of script) line name) ≡ false
-no_lists script line name f = by_maker (maker (commands_of script) line name) refl
-  where
-    by_command : (at : ℕ) (o : Option Command) → command_at (commands_of script) at ≡ o → is_list_line o ≡ false
-    by_command at (Some (Pgetrf m n a ia ja v)) e = absurd (false≢true (run_kept script at (Pgetrf m n a ia ja v) f e))
-    by_command at o e = refl
-
-    by_maker : (o : Option ℕ) → maker (commands_of script) line name ≡ o → is_list_line (command_on (commands_of script) o) ≡ false
-    by_maker None e = refl
-    by_maker (Some at) e = by_command at (command_at (commands_of script) at) refl
-
-or_left : (a b : Bool) → (a || b) ≡ true → b ≡ false → a ≡ true
-or_left true b e f = refl
-or_left false b e f = absurd (false≢true (sym f ∙ e))
-
 -- what a drop names is a matrix or a pivot list
 pub thing_kept : (script : List (Option Command)) (line : ℕ) (name : List ℕ) → KeepsRules script → command_at (commands_of script) line ≡ Some (Discard name) →
     (is_matrix_line (maker_command (commands_of script) line name) || is_list_line (maker_command (commands_of script) line name)) ≡ true
@@ -338,17 +324,6 @@ discard_kept script line name h e = by_maker (maker (commands_of script) line na
     by_maker : (o : Option ℕ) → maker (commands_of script) line name ≡ o → (is_matrix_line (command_on (commands_of script) o) || is_list_line (command_on (commands_of script) o)) ≡ true → (at : ℕ) × (maker (commands_of script) line name ≡ Some at)
     by_maker None m t = absurd cc
     by_maker (Some at) m t = (at, m)
-
--- where the ranks can run all lines, a drop is of a matrix
-pub drop_kept : (script : List (Option Command)) (line : ℕ) (name : List ℕ) → KeepsRules script → first_unrunnable (commands_of script) ≡ None → command_at (commands_of script) line ≡ Some (Discard name) → NameKept (commands_of script) line name
-drop_kept script line name h r e =
-    let on = OnLine-from_command_at script line (Discard name) e in
-    let cs = commands_of script in
-    let le : on.place ≤ length script = omega (arith, on.inside) in
-    let there = subst (λ l. (is_matrix_line (maker_command cs l name) || is_list_line (maker_command cs l name)) ≡ true) on.number (thing_kept script line name h e) in
-    let matrix : is_matrix_line (maker_command cs (suc on.place) name) ≡ true = or_left _ _ there (no_lists script (suc on.place) name r) in
-    subst (λ l. NameKept cs l name) (sym on.number)
-    (name_kept script on.place (Discard name) name le (command_at-from_OnLine script on.place (Discard name) on.said) refl matrix)
 
 -- ---- new names
 

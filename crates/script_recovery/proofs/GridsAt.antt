@@ -25,7 +25,7 @@ pub commands-rise : (lines : List (Option Command)) → LinesRise 0 (commands_of
 commands-rise lines = commands_from-rise 0 1 lines (omega arith)
 
 -- ---- the ranks of the grids
-sizes-made : (command : Command) (first : ℕ) (rest : List Grid) → sizes (grid_made command first ++ rest) ≡ ranks_made command + sizes rest
+pub sizes-made : (command : Command) (first : ℕ) (rest : List Grid) → sizes (grid_made command first ++ rest) ≡ ranks_made command + sizes rest
 sizes-made (c.Grid name p q f) first rest = refl
 sizes-made command first rest = omega arith
 

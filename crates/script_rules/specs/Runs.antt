@@ -1,12 +1,12 @@
 -- The lines that the ranks can run so far.
-use Rattle.std.specs.Prelude.{ℕ, ◌==◌, if◌then◌else◌, Bool, true, false, List, [], ◌∷◌, Option, Some, None}
+use Rattle.std.specs.Prelude.{ℕ, if◌then◌else◌, Bool, true, false, List, [], ◌∷◌, Option, Some, None}
 use Rattle.run_data.specs.declared.command.Command.{Command}
 use Rattle.run_data.specs.declared.command.Command.TheVariants as c
 use Rattle.run_data.specs.Script.{Numbered}
 
--- the commands that the ranks can run: of grids those without code columns
+-- the commands that the ranks can run
 abbrev pub can_run : Command → Bool
-can_run (c.Grid name p q f) = f == 0
+can_run (c.Grid name p q f) = true
 can_run (c.Matrix name grid m n mb nb rsrc csrc file) = true
 can_run (c.Print name) = true
 can_run (c.Discard name) = true
@@ -19,8 +19,8 @@ can_run (c.Pgetrf m n a ia ja v) = false
 can_run (c.Pgetrs trans n nrhs a ia ja v b ib jb) = false
 can_run (c.Pgemr2d m n a ia ja b ib jb ctxt) = false
 can_run (c.Pivots name) = false
-can_run (c.Topology kind) = false
-can_run (c.Lose at rank) = false
+can_run (c.Topology kind) = true
+can_run (c.Lose at rank) = true
 
 -- the first line that they can't run
 abbrev pub first_unrunnable : List Numbered → Option ℕ

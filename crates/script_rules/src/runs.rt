@@ -9,19 +9,21 @@ fn can_run(command: &Command) -> bool
     ensures { result ≡ can_run command.now }
 {
     match command {
-        Command::Grid { f, .. } => *f == 0,
+        Command::Grid { .. } => true,
         Command::Matrix { .. } => true,
         Command::Print { .. } => true,
         Command::Discard { .. } => true,
+        Command::Topology { .. } => true,
         Command::Links { .. } => true,
         Command::Order { .. } => true,
+        Command::Lose { .. } => true,
         Command::Spares { .. } => true,
         _ => false,
     }
 }
 
-/// The first line, counted from 1, that the ranks can't run so far: they run `grid` lines without code columns, `matrix`, `print`, `drop`,
-/// `links`, `order` and `spares`.
+/// The first line, counted from 1, that the ranks can't run so far: they run `grid`, `matrix`, `print`, `drop`, `topology`, `links`,
+/// `order`, `lose` and `spares` lines.
 pub fn first_unrunnable(script: &Script) -> Option<u32>
     ensures { result ≡ first_unrunnable (commands_of script.now) }
 {

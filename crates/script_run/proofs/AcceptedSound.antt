@@ -1,26 +1,27 @@
--- An accepted script and its files are what a run on ranks asks for.
-use Rattle.std.proofs.Common.{◌≡◌, ◌<◌, ◌≤◌, ℕ, true, List, [], ◌∷◌, Option, Some, None, refl, sym, ap, subst, ◌∙◌, arith}
+-- A script that can be run, with its files, is one of which a World can be opened.
+use Rattle.std.proofs.Common.{◌≡◌, ◌<◌, ◌≤◌, ℕ, true, List, [], ◌∷◌, ◌++◌, Option, Some, None, refl, sym, ap, subst, ◌∙◌, arith}
 use Rattle.std.specs.Prelude.{All}
 use Rattle.std.proofs.lemmas.Bool.{false≢true}
-use Rattle.std.proofs.lemmas.List.Elements.{All-nil}
-use Rattle.run_data.specs.Matrix.{AreWords}
+use Rattle.std.proofs.lemmas.List.Elements.{All-nil, All-cons}
 use Rattle.run_data.specs.declared.command.Command.{Command}
 use Rattle.run_data.specs.declared.command.Command.TheVariants as c
 use Rattle.run_data.specs.Script.{Numbered, commands_of, command_at}
 use Rattle.rank_machine.specs.declared.record.Loss.{Loss}
-use Rattle.rank_machine.specs.Setting.{Setting, Job, ranks, job, is_matrix}
-use Rattle.rank_machine.specs.Scripts.{Matrices, capacity_after, capacity_from, grids_from, setting_of, file_of}
+use Rattle.rank_machine.specs.Setting.{Setting, Job, ranks, sizes, job, is_matrix}
+use Rattle.rank_machine.specs.Scripts.{Matrices, capacity_after, capacity_from, grids_from, loss_made, losses_in, setting_of}
+use Rattle.script_rules.specs.Rules.{ranks_of}
 use Rattle.script_lines.specs.Sound.{IsSound}
-use Rattle.script_bounds.specs.Accepted.{IsAccepted, KeepsRules}
+use Rattle.script_bounds.specs.Accepted.{KeepsRules}
 use Rattle.script_rules.specs.Runs.{first_unrunnable}
-use Rattle.script_bounds.proofs.Limits.{links_kept, run_kept}
+use Rattle.script_bounds.proofs.Limits.{links_kept, lose_kept, run_kept}
 use Rattle.script_lines.proofs.JobAt.{job_for, job-in_script}
-use Rattle.script_run.proofs.AcceptedCommands.{AreThere, there-all, there-first, there-later}
+use Rattle.script_recovery.proofs.GridsAt.{sizes-from}
+use Rattle.script_run.specs.Runnable.{IsRunnable}
+use Rattle.script_run.proofs.EachCommand.{AreThere, there-all, there-first, there-later}
 use Rattle.script_run.proofs.AcceptedGrids.{accepted-grids}
-use Rattle.script_run.proofs.AcceptedMatrices.{laid_out}
-use Rattle.script_run.proofs.AcceptedPlain.{no_losses-in}
+use Rattle.script_run.proofs.AcceptedLayouts.{accepted-layout}
 
--- how many messages a link may hold
+-- ---- how many messages a link may hold
 abbrev IsCapacity : ℕ → Type 0
 IsCapacity n = (1 ≤ n) × (n ≤ 64)
 
@@ -34,7 +35,7 @@ capacity_within script (n ∷ more) before h all within =
     capacity_within script more (capacity_after n.command before) h (there-later (commands_of script) more n all)
     (capacity_next script n.line n.command before h (there-first (commands_of script) more n all) within)
 
--- no line that the ranks can run multiplies by a factor of its own
+-- ---- no line that the ranks can run multiplies by a factor of its own
 no_scalars : (script : List (Option Command)) (files : Matrices) (line : ℕ) → first_unrunnable (commands_of script) ≡ None → (job (setting_of script files) line).scalars ≡ []
 no_scalars script files line runs =
     ap (λ (j : Job). j.scalars) (job-in_script script line) ∙ by_command (command_at (commands_of script) line) refl
@@ -47,19 +48,31 @@ no_scalars script files line runs =
     by_command (Some command) e = refl
     by_command None e = refl
 
-pub accepted-sound : (script : List (Option Command)) (files : Matrices) → IsAccepted script → first_unrunnable (commands_of script) ≡ None
-    → ((line : ℕ) → is_matrix (setting_of script files) line ≡ true → AreWords 65537 (file_of files line))
-    → IsSound 65537 (setting_of script files)
-accepted-sound script files accepted runs words =
+-- ---- each loss is of a rank of the run
+module _ (script : List (Option Command)) (h : KeepsRules script) where
+  abbrev OfRun : Loss → Type 0
+  OfRun l = l.rank < sizes (grids_from 0 (commands_of script))
+
+  loss_before : (line : ℕ) (command : Command) (rest : List Loss) → command_at (commands_of script) line ≡ Some command → All OfRun rest → All OfRun (loss_made command ++ rest)
+  loss_before line (c.Lose at rank) rest e all =
+      All-cons OfRun (record { at = at; rank = rank }) rest (let lost = lose_kept script line at rank h e in let same = sizes-from [] (commands_of script) 0 in omega (arith, lost, same)) all
+  loss_before line command rest e all = all
+
+  losses_within : (more : List Numbered) → AreThere (commands_of script) more → All OfRun (losses_in more)
+  losses_within [] all = All-nil OfRun
+  losses_within (n ∷ more) all = loss_before n.line n.command (losses_in more) (there-first (commands_of script) more n all) (losses_within more (there-later (commands_of script) more n all))
+
+pub accepted-sound : (script : List (Option Command)) (files : Matrices) → IsRunnable script files → IsSound 65537 (setting_of script files)
+accepted-sound script files h =
     let s : Setting = setting_of script files in
-    let capacity : IsCapacity s.capacity = capacity_within script (commands_of script) 1 accepted.lines (there-all script) (omega arith, omega arith) in
+    let capacity : IsCapacity s.capacity = capacity_within script (commands_of script) 1 h.accepted.lines (there-all script) (omega arith, omega arith) in
     record {
       modulus = refl;
-      grids = accepted-grids script files accepted;
-      layouts = λ line made. let laid = laid_out script files accepted.lines runs line made in record { grid = laid.grid; desc = laid.desc };
-      files = words;
-      scalars = λ line. subst (λ (l : List ℕ). All (λ a. a < 65537) l) (sym (no_scalars script files line runs)) (All-nil (λ a. a < 65537));
-      of_ranks = subst (All (λ (l : Loss). l.rank < ranks s)) (sym (no_losses-in script (commands_of script) runs (there-all script))) (All-nil (λ (l : Loss). l.rank < ranks s));
+      grids = accepted-grids script h.accepted.lines;
+      layouts = λ line made. accepted-layout script files line h.accepted.lines made;
+      files = λ line made. (h.has_files line made).words;
+      scalars = λ line. subst (λ (l : List ℕ). All (λ a. a < 65537) l) (sym (no_scalars script files line h.runs)) (All-nil (λ a. a < 65537));
+      of_ranks = losses_within script h.accepted.lines (commands_of script) (there-all script);
       some_messages = capacity.0;
       messages = capacity.1;
     }

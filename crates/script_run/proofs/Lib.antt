@@ -1,11 +1,12 @@
-mod Noting
-mod Placed
-mod PrintedOn
-mod NoLosses
-pub mod AcceptedCommands
+pub mod Named
+pub mod EachCommand
 pub mod AcceptedGrids
-pub mod AcceptedMatrices
-pub mod AcceptedPrints
-pub mod AcceptedPlain
-mod Underway
+pub mod AcceptedLayouts
 pub mod AcceptedSound
+mod Placed
+mod Prints
+mod Driving
+mod Commands
+mod DropLine
+mod MatrixLine
+mod LineByLine

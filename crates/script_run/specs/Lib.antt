@@ -1,2 +1,4 @@
-pub mod Noted
 pub mod Runnable
+pub mod Orders
+pub mod Strips
+pub mod Driving

@@ -1,11 +1,12 @@
-//! The run of a script on the ranks, line by line: a matrix is fed strip by strip, a print takes every strip of its matrix and
-//! makes its text of them, and each line that makes records ends with its commit.
+//! The run of a script on the ranks, line by line and over losses: each line that makes records is a phase that is driven from the
+//! commit before it to its own. A `matrix` line feeds its file, a `print` line takes the strips of a matrix and makes its text of them,
+//! a `drop` line is a commit alone.
 #![tactic(auto)]
 
-mod feeding;
 mod lines;
+mod opening;
 mod printing;
 mod running;
-mod steps;
 
+pub use loss_recovery::Drove;
 pub use running::{Ran, run};

@@ -1,75 +1,175 @@
-//! The lines of a script, one after another.
-ghost use Rattle.std.specs.Prelude.{◌≡◌, ◌++◌, ◌∷◌, [], false, OnOk};
-ghost use Rattle.run_data.specs.Matrix.{IsShaped};
-ghost use Rattle.rank_machine.specs.Setting as machine;
-ghost use Rattle.rank_machine.specs.State.{end_mark};
-ghost use Rattle.rank_machine.specs.declared.record.Rec.TheVariants.{Commit};
-ghost use Rattle.block_world.specs.World.{setting_in, state_of, noted_all};
-ghost use Rattle.dist_matrix.specs.Strips.{HasShape};
+//! The lines of a script, each driven over losses.
+ghost use Rattle.std.specs.Prelude.{◌≡◌, ◌+◌, ◌++◌, ℕ, Some, IfOk, OnOk};
+ghost use Rattle.std.specs.Str.{IsUtf8};
+ghost use Rattle.run_data.specs.Script.{commands_of, command_at};
+ghost use Rattle.run_data.specs.declared.command.Command.TheVariants as c;
 ghost use Rattle.serial_model.specs.Text.{matrix_text};
-ghost use Rattle.run_records.specs.Records.{strip_places, feeds, takes};
-ghost use Rattle.script_lines.specs.Layouts.{IsLayout, seen};
-ghost use Rattle.script_run.specs.Noted.{HasNoLosses, MayNote, HoldsMatrix};
+ghost use Rattle.world_heal.specs.Outcomes.{IfDrove};
+ghost use Rattle.loss_recovery.specs.Driven.{site_at};
+ghost use Rattle.whole_run.specs.Between.{HasRun};
+ghost use Rattle.whole_run.specs.Inside.{IsStopped};
+ghost use Rattle.script_run.specs.Runnable.{IsRunnable};
+ghost use Rattle.script_run.specs.Driving.{IsWholeLine, HasDriven, MakesMatrix, DropsName};
 
-use crate::feeding::feed_matrix;
-use crate::printing::take_matrix;
-use crate::steps::commit;
-use block_world::{Mark, Mat, World};
+use crate::printing::{slots_of, whole_of};
+use block_world::{Mark, Mat, Order, World};
+use dist_matrix::Site;
+use feed_phase::FeedPhase;
 use field_core::F65537;
+use loss_recovery::{Drove, drive};
+use phases::Phase;
+use plain_phases::{EndPhase, TakePhase};
 use printed_text::matrix_text;
-use script_lines::Layout;
-use std::alloc::{AllocError, Global};
+use run_data::{Command, Files, Script};
+use std::alloc::{AllocError as NoMemory, Global};
 
-/// Ends a line by its commit.
-pub fn end_line(world: &mut World<'_, F65537>, line: u32) -> Result<(), AllocError>
-    requires no_losses { HasNoLosses world.old }
-    requires legal { MayNote world.old (Commit (end_mark line) false ∷ []) }
-    ensures { OnOk result (world.new ≡ noted_all world.old (Commit (end_mark line) false ∷ [])) }
-{
-    commit(world, Mark::end_of(line))
-}
-
-/// Makes a matrix: feeds its strips and ends its line.
-pub fn make_matrix(
+// Drives the phase that is the whole of the next line; `_out` is what was printed so far.
+fn drive_line<H: Phase<F65537>>(
     alloc: Global,
     world: &mut World<'_, F65537>,
-    m: &Mat,
-    layout: Layout,
-    line: u32,
-) -> Result<(), AllocError>
-    requires laid_out { IsLayout (seen layout) }
-    requires shape { HasShape (seen layout) m.now }
-    requires lies_there { machine.layout (setting_in world.old) line ≡ seen layout }
-    requires file { (setting_in world.old).files line ≡ m.now }
-    requires no_losses { HasNoLosses world.old }
-    requires legal { MayNote world.old (feeds (strip_places line (seen layout)) ++ Commit (end_mark line) false ∷ []) }
-    ensures { OnOk result (world.new ≡ noted_all world.old (feeds (strip_places line (seen layout)) ++ Commit (end_mark line) false ∷ [])) }
+    site: &mut Site<'_>,
+    script: &Script,
+    order: &mut Order,
+    phase: &mut H,
+    done: u32,
+    _out: &[u8],
+) -> Result<Drove, NoMemory>
+    requires runnable { IsRunnable script.now world.old.files }
+    requires before { HasRun script.now world.old.files done world.old _out.now }
+    requires line { IsWholeLine script.now done (H.plan (H.task phase.old)) world.old }
+    requires site_is { site.old ≡ site_at world.old }
+    ensures same_task { OnOk result (H.task phase.new ≡ H.task phase.old) }
+    ensures site_is { OnOk result (site.new ≡ site_at world.new) }
+    ensures driven { IfOk result (IfDrove (HasDriven script.now (H.plan (H.task phase.old)) (H.progress phase.new) world.old world.new) (IsStopped script.now world.old.files done world.new _out.now)) }
 {
-    feed_matrix(alloc, world, m, layout, line)?;
-    end_line(world, line)
+    let _running = world.journal();
+    drive(alloc, world, site, script, order, phase)
 }
 
-/// Prints the matrix that a line made: takes its strips, adds its text and ends the line of the print.
-pub fn print_matrix(
+// A `matrix` line.
+fn run_matrix(
     alloc: Global,
     world: &mut World<'_, F65537>,
-    layout: Layout,
-    what: u32,
-    line: u32,
-    name: &str,
+    site: &mut Site<'_>,
+    script: &Script,
+    files: &Files,
+    order: &mut Order,
+    done: u32,
+    out: &[u8],
+) -> Result<Drove, NoMemory>
+    requires runnable { IsRunnable script.now files.now }
+    requires before { HasRun script.now files.now done world.old out.now }
+    requires line { MakesMatrix (command_at (commands_of script.now) (done + 1)) }
+    requires site_is { site.old ≡ site_at world.old }
+    ensures site_is { OnOk result (site.new ≡ site_at world.new) }
+    ensures ran { IfOk result (IfDrove (HasRun script.now files.now (done + 1) world.new out.now) (IsStopped script.now files.now done world.new out.now)) }
+{
+    let Some(file) = files.get(done + 1) else {
+        unreachable!();
+    };
+    let mut phase = FeedPhase::new(alloc, site, file, done + 1);
+    drive_line(alloc, world, site, script, order, &mut phase, done, out)
+}
+
+// Adds the text of a matrix of a name.
+fn add_text(alloc: Global, name: &[u8], m: &Mat, out: &mut Vec<u8>) -> Result<(), NoMemory>
+    requires { IsUtf8 name.now }
+    ensures { OnOk result (out.new.items ≡ out.old.items ++ matrix_text name.now m.now) }
+{
+    let Ok(name) = str::from_utf8(name) else {
+        unreachable!();
+    };
+    let text = matrix_text(alloc, name, m)?;
+    out.extend_from_slice(&text)
+}
+
+// A `print` line of a name.
+fn run_print(
+    alloc: Global,
+    world: &mut World<'_, F65537>,
+    site: &mut Site<'_>,
+    script: &Script,
+    order: &mut Order,
+    done: u32,
+    name: &[u8],
     out: &mut Vec<u8>,
-) -> Result<(), AllocError>
-    requires laid_out { IsLayout (seen layout) }
-    requires shaped { IsShaped ((setting_in world.old).files what) }
-    requires shape { HasShape (seen layout) ((setting_in world.old).files what) }
-    requires held { HoldsMatrix (state_of world.old) what (seen layout) ((setting_in world.old).files what) }
-    requires no_losses { HasNoLosses world.old }
-    requires legal { MayNote world.old (takes (strip_places what (seen layout)) ++ Commit (end_mark line) false ∷ []) }
-    ensures noted { OnOk result (world.new ≡ noted_all world.old (takes (strip_places what (seen layout)) ++ Commit (end_mark line) false ∷ [])) }
-    ensures text { OnOk result (out.new.items ≡ out.old.items ++ matrix_text name.now ((setting_in world.old).files what)) }
+) -> Result<Drove, NoMemory>
+    requires runnable { IsRunnable script.now world.old.files }
+    requires before { HasRun script.now world.old.files done world.old out.old.items }
+    requires line { command_at (commands_of script.now) (done + 1) ≡ Some (c.Print name.now) }
+    requires site_is { site.old ≡ site_at world.old }
+    ensures site_is { OnOk result (site.new ≡ site_at world.new) }
+    ensures ran { IfOk result (IfDrove (HasRun script.now world.old.files (done + 1) world.new out.new.items) (IsStopped script.now world.old.files done world.new out.new.items)) }
 {
-    let m = take_matrix(alloc, world, layout, what)?;
-    let text = matrix_text(alloc, name, &m)?;
-    out.extend_from_slice(&text)?;
-    end_line(world, line)
+    let what = script.operand(done + 1, 1).unwrap_or(0);
+    let layout = site.layout(what);
+    let slots = slots_of(alloc, layout, what)?;
+    let mut phase = TakePhase::new(alloc, slots, Mark::end_of(done + 1));
+    match drive_line(alloc, world, site, script, order, &mut phase, done, out)? {
+        Drove::Done => {}
+        cut => return Ok(cut),
+    }
+    let whole = whole_of(alloc, layout, what, phase.got())?;
+    add_text(alloc, name, &whole, out)?;
+    Ok(Drove::Done)
+}
+
+// A `drop` line.
+fn run_drop(
+    alloc: Global,
+    world: &mut World<'_, F65537>,
+    site: &mut Site<'_>,
+    script: &Script,
+    order: &mut Order,
+    done: u32,
+    out: &[u8],
+) -> Result<Drove, NoMemory>
+    requires runnable { IsRunnable script.now world.old.files }
+    requires before { HasRun script.now world.old.files done world.old out.now }
+    requires line { DropsName (command_at (commands_of script.now) (done + 1)) }
+    requires site_is { site.old ≡ site_at world.old }
+    ensures site_is { OnOk result (site.new ≡ site_at world.new) }
+    ensures ran { IfOk result (IfDrove (HasRun script.now world.old.files (done + 1) world.new out.now) (IsStopped script.now world.old.files done world.new out.now)) }
+{
+    let mut phase = EndPhase::new(Mark::end_of(done + 1));
+    drive_line(alloc, world, site, script, order, &mut phase, done, out)
+}
+
+/// Runs the command of the next line, where so many are done.
+///
+/// Done: the line has run, and what it prints was added. Beyond and NoSpare: the run was cut short in it, and nothing was added.
+/// `grid`, `links`, `spares`, `order`, `topology` and `lose` lines do nothing here: a World opens with all grids and losses, and no
+/// command broadcasts.
+pub fn run_line(
+    alloc: Global,
+    world: &mut World<'_, F65537>,
+    site: &mut Site<'_>,
+    script: &Script,
+    files: &Files,
+    order: &mut Order,
+    done: u32,
+    command: &Command,
+    out: &mut Vec<u8>,
+) -> Result<Drove, NoMemory>
+    requires runnable { IsRunnable script.now files.now }
+    requires before { HasRun script.now files.now done world.old out.old.items }
+    requires line { command_at (commands_of script.now) (done + 1) ≡ Some command.now }
+    requires site_is { site.old ≡ site_at world.old }
+    ensures site_is { OnOk result (site.new ≡ site_at world.new) }
+    ensures ran { IfOk result (IfDrove (HasRun script.now files.now (done + 1) world.new out.new.items) (IsStopped script.now files.now done world.new out.new.items)) }
+{
+    match command {
+        Command::Matrix { .. } => run_matrix(alloc, world, site, script, files, order, done, out),
+        Command::Print { name } => {
+            run_print(alloc, world, site, script, order, done, name.bytes(), out)
+        }
+        Command::Discard { .. } => run_drop(alloc, world, site, script, order, done, out),
+        Command::Grid { .. }
+        | Command::Links { .. }
+        | Command::Spares { .. }
+        | Command::Order { .. }
+        | Command::Topology { .. }
+        | Command::Lose { .. } => Ok(Drove::Done),
+        _ => unreachable!(),
+    }
 }

@@ -9,20 +9,17 @@ fn check_bound(rt: &impl Abort, row: usize, found: (u64, u64, u64), want: (u64, 
     assert_eq!(rt; found, want, "row {row}");
 }
 
-// Stops where the first line that the ranks can't run is not this one.
-fn check_line(rt: &impl Abort, found: Option<u32>, want: u32) {
-    assert_eq!(rt; found, Some(want));
+// Stops where the first line that the ranks can't run is not this one, by the row of a table; 0 stands for none.
+fn check_line(rt: &impl Abort, row: usize, found: Option<u32>, want: u32) {
+    assert_eq!(rt; found.unwrap_or(0), want, "row {row}");
 }
 
+// Lines after a head, the first line of the whole that the ranks can't run, and the bound, the longest phase and the recovery.
+type Row<'a> = (&'a [u8], u32, (u64, u64, u64));
+
 // Stops where a script of a head and some lines has other bounds than the table says, or another first line that the ranks can't run.
-fn check_bounds(
-    rt: &impl Abort,
-    alloc: Global,
-    head: &[u8],
-    unrunnable: u32,
-    table: &[(&[u8], (u64, u64, u64))],
-) {
-    for (row, (lines, want)) in table.iter().enumerate() {
+fn check_bounds(rt: &impl Abort, alloc: Global, head: &[u8], table: &[Row]) {
+    for (row, (lines, unrunnable, want)) in table.iter().enumerate() {
         let text = repeated(rt, alloc, head, lines, 1);
         let script = script(rt, alloc, &text);
         let found = (
@@ -30,7 +27,7 @@ fn check_bounds(
             phase_steps(&script),
             recovery_steps(&script),
         );
-        check_line(rt, first_unrunnable(&script), unrunnable);
+        check_line(rt, row, first_unrunnable(&script), *unrunnable);
         check_bound(rt, row, found, *want);
     }
 }
@@ -50,18 +47,19 @@ fn bounds_records(rt: HostRuntime) {
 
 #[test]
 fn bounds_routines(rt: HostRuntime) {
-    let lines: [(&[u8], (u64, u64, u64)); 6] = [
-        (b"pgemm N N 4 4 4 1 A 1 1 B 1 1 1 C 1 1\n", (91, 57, 72)),
-        (b"ptrsm L L N N 4 4 1 A 1 1 B 1 1\n", (109, 57, 72)),
-        (b"pgetrf 4 4 A 1 1 V\n", (446, 103, 72)),
+    let lines: [Row; 6] = [
+        (b"pgemm N N 4 4 4 1 A 1 1 B 1 1 1 C 1 1\n", 7, (91, 57, 72)),
+        (b"ptrsm L L N N 4 4 1 A 1 1 B 1 1\n", 7, (109, 57, 72)),
+        (b"pgetrf 4 4 A 1 1 V\n", 7, (446, 103, 72)),
         (
             b"pgetrf 4 4 A 1 1 V\npgetrs N 4 4 A 1 1 V B 1 1\npivots V\n",
+            7,
             (626, 103, 72),
         ),
-        (b"pgemr2d 4 4 A 1 1 D 1 1 all\n", (105, 71, 72)),
-        (b"lose 5 0\nlose 9 3\n", (216, 19, 72)),
+        (b"pgemr2d 4 4 A 1 1 D 1 1 all\n", 7, (105, 71, 72)),
+        (b"lose 5 0\nlose 9 3\n", 0, (216, 19, 72)),
     ];
-    check_bounds(&rt, rt.alloc(), MATRICES, 2, &lines);
+    check_bounds(&rt, rt.alloc(), MATRICES, &lines);
 }
 
 // A grid of P = 2, Q = 2, F = 1, so W = 3, d = 18 and 6 ranks; A has 2 groups and B has 1. A's line makes 2 * 2 * (2 + 7) + 1 = 37 records
@@ -81,28 +79,35 @@ const HEAD: &[u8] = b"grid g 2 2 1\nmatrix A g 6 6 2 2 0 0 a\nmatrix B g 6 3 2 3
 // - two losses: 2 * (37 + 188) more.
 #[test]
 fn bounds_by_hand(rt: HostRuntime) {
-    let lines: [(&[u8], (u64, u64, u64)); 10] = [
+    let lines: [Row; 10] = [
         (
             b"topology t\nlinks 2\norder 5 0 4095\nspares 3\n",
+            0,
             (56, 37, 188),
         ),
-        (b"print A\n", (65, 37, 188)),
-        (b"drop A\nmatrix A g 6 6 2 2 0 0 a\n", (94, 37, 188)),
+        (b"print A\n", 0, (65, 37, 188)),
+        (b"drop A\nmatrix A g 6 6 2 2 0 0 a\n", 0, (94, 37, 188)),
         (
             b"matrix C g 6 3 2 3 0 0 c\npgemm N N 6 3 6 1 A 1 1 B 1 1 1 C 1 1\n",
+            5,
             (196, 121, 248),
         ),
-        (b"ptrsm L L N N 6 3 1 A 1 1 B 1 1\n", (195, 121, 188)),
-        (b"pgetrf 6 6 A 1 1 V\n", (1286, 133, 192)),
-        (b"pgetrf 6 6 A 1 1 V\npivots V\ndrop V\n", (1289, 133, 192)),
+        (b"ptrsm L L N N 6 3 1 A 1 1 B 1 1\n", 4, (195, 121, 188)),
+        (b"pgetrf 6 6 A 1 1 V\n", 4, (1286, 133, 192)),
+        (
+            b"pgetrf 6 6 A 1 1 V\npivots V\ndrop V\n",
+            4,
+            (1289, 133, 192),
+        ),
         (
             b"pgetrf 6 6 A 1 1 V\npgetrs N 6 3 A 1 1 V B 1 1\n",
+            4,
             (1644, 133, 192),
         ),
-        (b"pgemr2d 4 3 A 1 1 B 2 1 all\n", (117, 61, 188)),
-        (b"lose 3 5\nlose 9 0\n", (506, 37, 188)),
+        (b"pgemr2d 4 3 A 1 1 B 2 1 all\n", 4, (117, 61, 188)),
+        (b"lose 3 5\nlose 9 0\n", 0, (506, 37, 188)),
     ];
-    check_bounds(&rt, rt.alloc(), HEAD, 1, &lines);
+    check_bounds(&rt, rt.alloc(), HEAD, &lines);
 }
 
 // A factorization of 256 rows.

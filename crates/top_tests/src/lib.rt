@@ -6,6 +6,8 @@ mod calls;
 #[cfg(test)]
 mod faults;
 #[cfg(test)]
+mod losses;
+#[cfg(test)]
 mod ranks;
 #[cfg(test)]
 mod refusals;

@@ -92,19 +92,19 @@ fn refuses_lines_that_are_not_run(rt: HostRuntime) {
         rt.alloc(),
         &[
             (
-                b"links 1\ntopology d\norder 1\n",
+                b"grid g 1 1 0\nmatrix A g 1 1 1 1 0 0 b.txt\nmatrix B g 1 1 1 1 0 0 b.txt\npgemm N N 1 1 1 1 A 1 1 A 1 1 1 B 1 1\npgetrf 1 1 A 1 1 V\n",
                 b"",
-                ended(refused(0, 2, 18), b"refused file 0 line 2 code 18\n"),
+                ended(refused(0, 4, 18), b"refused file 0 line 4 code 18\n"),
             ),
             (
-                b"topology d\nqr A\n",
+                b"grid g 1 1 0\nmatrix A g 1 1 1 1 0 0 b.txt\npgetrf 1 1 A 1 1 V\nqr A\n",
                 b"",
-                ended(refused(0, 2, 1), b"refused file 0 line 2 code 1\n"),
+                ended(refused(0, 4, 1), b"refused file 0 line 4 code 1\n"),
             ),
             (
-                b"grid g 1 1 1\nmatrix A g 1 1 1 1 0 0 b.txt\ntopology t\n",
+                b"grid g 1 1 1\nlose 0 0\nmatrix A g 1 1 1 1 0 0 b.txt\nmatrix B g 1 1 1 1 0 0 b.txt\npgemr2d 1 1 A 1 1 B 1 1 all\n",
                 b"",
-                ended(refused(0, 1, 18), b"refused file 0 line 1 code 18\n"),
+                ended(refused(0, 5, 18), b"refused file 0 line 5 code 18\n"),
             ),
             (
                 b"grid g 1 1 0\nmatrix A g 1 1 1 1 0 0 a.txt\npgetrf 1 1 A 1 1 V\npivots V\n",

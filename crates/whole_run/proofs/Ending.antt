@@ -22,7 +22,7 @@ use Rattle.world_heal.specs.Ways.{rest_of}
 use Rattle.world_heal.specs.declared.healing.Drove.{Drove}
 use Rattle.world_heal.specs.declared.healing.Drove.TheVariants as d
 use Rattle.world_heal.specs.Outcomes.{IsEnding, IsCutAt}
-use Rattle.run_records.specs.PrintedFrom.{ArePrinted}
+use Rattle.whole_run.specs.PrintedFrom.{ArePrinted}
 use Rattle.serial_model.specs.Serial.{up_to, text_to}
 use Rattle.rank_machine.specs.Losses.{last_ended}
 use Rattle.whole_run.specs.Until.{AllEndUntil}

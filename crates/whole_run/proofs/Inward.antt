@@ -18,14 +18,14 @@ use Rattle.run_laws.specs.Due.{IsRunning}
 use Rattle.run_laws.proofs.Journals.{state-append, IsLegalFrom-later}
 use Rattle.phases.specs.Plans.{Plan, Progress}
 use Rattle.loss_recovery.specs.Driven.{IsDriven, CostsAtMost}
-use Rattle.world_heal.specs.Costs.{KeepsGoing, KeepsShort, KeepsHealing}
-use Rattle.run_records.specs.PrintedFrom.{ArePrinted}
+use Rattle.world_heal.specs.Costs.{KeepsGoing, KeepsShort, KeepsHealing, KeepsHolding}
+use Rattle.whole_run.specs.PrintedFrom.{ArePrinted}
 use Rattle.serial_model.specs.Serial.{up_to}
 use Rattle.rank_machine.specs.Losses.{last_ended_from, last_ended}
 use Rattle.whole_run.specs.Until.{bound_until}
 use Rattle.whole_run.specs.Between.{IsInBounds, cost}
 use Rattle.run_laws.specs.Traces.{spent}
-use Rattle.whole_run.specs.Inside.{IsInside, KeepsHolding}
+use Rattle.whole_run.specs.Inside.{IsInside}
 use Rattle.whole_run.proofs.Lasting.{place, commit_on, last_append}
 use Rattle.whole_run.proofs.Later.{AreLater, printed-later}
 

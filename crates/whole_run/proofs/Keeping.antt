@@ -15,11 +15,11 @@ use Rattle.run_laws.specs.Due.{IsRunning}
 use Rattle.run_laws.specs.Traces.{recovery_under}
 use Rattle.phases.specs.Plans.{Plan}
 use Rattle.loss_recovery.specs.Driven.{CostsAtMost, RecoversInTime, cost_of}
-use Rattle.world_heal.specs.Costs.{KeepsGoing, KeepsShort}
+use Rattle.world_heal.specs.Costs.{KeepsGoing, KeepsShort, KeepsHolding}
 use Rattle.world_heal.specs.Outcomes.{IsCutAt, IsEnding}
 use Rattle.world_heal.specs.declared.healing.Drove.{Drove}
 use Rattle.world_heal.specs.declared.healing.Drove.TheVariants as d
-use Rattle.whole_run.specs.Inside.{IsInside, IsStopped, KeepsHolding, ending_at}
+use Rattle.whole_run.specs.Inside.{IsInside, IsStopped, ending_at}
 use Rattle.whole_run.specs.WholeRun.{IsRunOf}
 use Rattle.whole_run.proofs.Ending.{run-cut}
 use Rattle.script_recovery.proofs.MarksMost.{recovery-most}

@@ -11,7 +11,7 @@ use Rattle.rank_machine.specs.Setting.{Setting}
 use Rattle.rank_machine.specs.Scripts.{line_meant}
 use Rattle.rank_machine.specs.State.{Took, same_kind, or_else}
 use Rattle.rank_machine.specs.Printed.{last_take}
-use Rattle.run_records.specs.PrintedFrom.{IsMatrixText, IsPivotsText, IsInfoText, IsTextOf, ArePrinted}
+use Rattle.whole_run.specs.PrintedFrom.{IsMatrixText, IsPivotsText, IsInfoText, IsTextOf, ArePrinted}
 use Rattle.serial_model.specs.Serial.{up_to}
 
 abbrev pub AreLater : ℕ → List Took → Type 0

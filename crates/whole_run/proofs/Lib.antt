@@ -10,3 +10,5 @@ pub mod Passing
 pub mod Opening
 pub mod LineEnds
 pub mod Mendable
+pub mod Measured
+pub mod WholeText

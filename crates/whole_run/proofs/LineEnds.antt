@@ -23,13 +23,12 @@ use Rattle.block_world.specs.World.{WorldView, setting_in, state_of}
 use Rattle.run_laws.specs.Traces.{spent}
 use Rattle.phases.specs.Plans.{Plan, Progress}
 use Rattle.loss_recovery.specs.Driven.{IsDriven, CostsAtMost}
-use Rattle.world_heal.specs.Costs.{KeepsGoing, KeepsShort, KeepsHealing}
-use Rattle.run_records.specs.PrintedFrom.{IsTextOf, ArePrinted}
+use Rattle.world_heal.specs.Costs.{KeepsGoing, KeepsShort, KeepsHealing, KeepsHolding}
+use Rattle.whole_run.specs.PrintedFrom.{IsTextOf, ArePrinted}
 use Rattle.line_laws.proofs.UpTo.{one_of, up_to-next, text-append, values-append}
 use Rattle.whole_run.specs.Until.{values_at, bound_until, AllEndUntil}
 use Rattle.line_laws.specs.Lines.{values_of}
 use Rattle.whole_run.specs.Between.{StandsFor, IsInBounds, HasRun, cost}
-use Rattle.whole_run.specs.Inside.{KeepsHolding}
 use Rattle.whole_run.proofs.Ending.{setting_is}
 use Rattle.whole_run.proofs.Lasting.{last_append}
 use Rattle.whole_run.proofs.Later.{AreLater, printed-later}

@@ -22,7 +22,7 @@ use Rattle.block_world.specs.World.{WorldView}
 use Rattle.run_laws.specs.Due.{is_ahead, ahead_of}
 use Rattle.run_laws.specs.NextMark.{JobsRise, has_line}
 use Rattle.run_laws.proofs.Scripts.{script_rising}
-use Rattle.run_records.specs.PrintedFrom.{ArePrinted}
+use Rattle.whole_run.specs.PrintedFrom.{ArePrinted}
 use Rattle.loss_recovery.proofs.Opening.{at_rest_opened}
 use Rattle.line_laws.proofs.UpTo.{none-before}
 use Rattle.line_laws.proofs.NextLine.{above, job-of_list}

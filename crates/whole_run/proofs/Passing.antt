@@ -16,7 +16,7 @@ use Rattle.rank_machine.specs.Losses.{last_ended}
 use Rattle.script_bounds.specs.Bounds.{records_in, losses}
 use Rattle.serial_model.specs.Serial.{Values, values_after, text_added, text_from, up_to, text_to}
 use Rattle.block_world.specs.World.{WorldView, setting_in, state_of}
-use Rattle.run_records.specs.PrintedFrom.{IsTextOf, ArePrinted}
+use Rattle.whole_run.specs.PrintedFrom.{IsTextOf, ArePrinted}
 use Rattle.line_laws.proofs.UpTo.{one_of, up_to-next, text-append, values-append}
 use Rattle.whole_run.specs.Until.{values_at, bound_until}
 use Rattle.line_laws.specs.Lines.{values_of}

@@ -17,7 +17,7 @@ use Rattle.rank_machine.specs.State.{Took}
 use Rattle.rank_machine.proofs.Jobs.{job_of-line}
 use Rattle.script_bounds.specs.Bounds.{records_in, plain_bound, bound, losses}
 use Rattle.serial_model.specs.Serial.{Values, values_after, text_added, text_from}
-use Rattle.run_records.specs.PrintedFrom.{IsTextOf, ArePrinted}
+use Rattle.whole_run.specs.PrintedFrom.{IsTextOf, ArePrinted}
 use Rattle.serial_model.specs.Serial.{up_to}
 use Rattle.whole_run.specs.Until.{bound_until}
 use Rattle.whole_run.specs.Between.{cost}

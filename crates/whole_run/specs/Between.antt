@@ -18,7 +18,7 @@ use Rattle.block_world.specs.World.{WorldView, setting_in, state_of}
 use Rattle.run_laws.specs.Cuts.{NoneGoesTooFar}
 use Rattle.run_laws.specs.Traces.{AreShort, AllHeal, AlwaysHold, spent}
 use Rattle.loss_recovery.specs.Driven.{IsAtRest}
-use Rattle.run_records.specs.PrintedFrom.{ArePrinted}
+use Rattle.whole_run.specs.PrintedFrom.{ArePrinted}
 use Rattle.serial_model.specs.Serial.{up_to, text_to}
 use Rattle.rank_machine.specs.Losses.{last_ended}
 use Rattle.whole_run.specs.Until.{bound_until, values_at, AllEndUntil}

@@ -6,13 +6,13 @@ use Rattle.rank_machine.specs.Setting.{is_job}
 use Rattle.rank_machine.specs.Scripts.{Matrices, file_of}
 use Rattle.script_bounds.specs.Bounds.{plain_bound, losses, phase_steps, recovery_steps}
 use Rattle.block_world.specs.World.{WorldView, setting_in, state_of}
-use Rattle.run_laws.specs.Traces.{AlwaysHold, spent}
+use Rattle.run_laws.specs.Traces.{spent}
 use Rattle.loss_recovery.specs.Driven.{IsAtRest, CostsAtMost}
-use Rattle.world_heal.specs.Costs.{KeepsGoing, KeepsShort, KeepsHealing}
+use Rattle.world_heal.specs.Costs.{KeepsGoing, KeepsShort, KeepsHealing, KeepsHolding}
 use Rattle.world_heal.specs.Outcomes.{IsCutAt}
 use Rattle.world_heal.specs.declared.healing.Drove.{Drove}
 use Rattle.world_heal.specs.declared.healing.Drove.TheVariants as d
-use Rattle.run_records.specs.PrintedFrom.{ArePrinted}
+use Rattle.whole_run.specs.PrintedFrom.{ArePrinted}
 use Rattle.serial_model.specs.Serial.{up_to, text_to}
 use Rattle.rank_machine.specs.Losses.{last_ended}
 use Rattle.whole_run.specs.Until.{bound_until}
@@ -31,10 +31,6 @@ pub record IsInside (script : List (Option Command)) (files : Matrices) (line us
   pub bounds : IsInBounds (setting_in w) (phase_steps (commands_of script)) (recovery_steps (commands_of script)) w.journal
   pub few : spent (cost (commands_of script)) (setting_in w) w.journal ≤ (bound_until line (commands_of script) + used) + losses (commands_of script) * cost (commands_of script)
   pub fits : bound_until line (commands_of script) + used ≤ plain_bound (commands_of script)
-
--- the words of ranks
-abbrev pub KeepsHolding : WorldView → WorldView → Type 0
-KeepsHolding old new = AlwaysHold (setting_in old) old.journal → AlwaysHold (setting_in old) new.journal
 
 -- the bounds of a script are kept, and the losses that fell have paid for what was added
 pub record KeepsBounds (script : List (Option Command)) (old new : WorldView) : Type 0 where

@@ -11,7 +11,7 @@ use Rattle.rank_machine.specs.JournalText.{journal_text}
 use Rattle.script_bounds.specs.Bounds.{bound, phase_steps, recovery_steps}
 use Rattle.run_laws.specs.Due.{numbered}
 use Rattle.run_laws.specs.Cuts.{IsWithin}
-use Rattle.run_records.specs.PrintedFrom.{ArePrinted}
+use Rattle.whole_run.specs.PrintedFrom.{ArePrinted}
 use Rattle.serial_model.specs.Serial.{up_to, text_to}
 use Rattle.rank_machine.specs.Losses.{last_ended}
 use Rattle.whole_run.specs.Until.{AllEndUntil}

@@ -14,23 +14,27 @@ use Rattle.run_laws.specs.LastCommit.{with_spawned}
 use Rattle.run_laws.specs.Cuts.{IsWithin, MayGoOn, GoOnFrom}
 use Rattle.run_laws.specs.Traces.{recovery_of}
 use Rattle.run_laws.proofs.Going.{go_append}
+use Rattle.run_laws.proofs.Words.{hold-restore}
 use Rattle.recovery_laws.proofs.Commits.{of-journal}
 use Rattle.recovery_laws.proofs.Inside.{no_others-live}
 use Rattle.recovery_rounds.specs.Rows.{IsHealing, IsAllHealed, spawn_records}
 use Rattle.recovery_rounds.proofs.HealedCommits.{healing-begins, commit-legal, commit-returns}
+use Rattle.recovery_words.specs.Roomy.{IsRoomy}
+use Rattle.recovery_words.proofs.Beginnings.{begins-roomy, commit-holds}
 use Rattle.recovery_counts.specs.Counted.{grids_so_far}
 use Rattle.recovery_counts.proofs.LineCounts.{few-grids}
 use Rattle.block_world.specs.World.{WorldView, setting_in, state_of, is_hurt, noted}
 use Rattle.block_world.specs.Did.{IsMade, IsStopped}
-use Rattle.world_heal.specs.Ways.{IsHit, rest_of}
-use Rattle.world_heal.specs.Mended.{IsMendable, IsMending, HasMended}
+use Rattle.world_heal.specs.Ways.{rest_of}
+use Rattle.world_heal.specs.Costs.{HoldsWords}
+use Rattle.world_heal.specs.Mended.{IsMendable, IsMending, HasMended, IsHitMending}
 use Rattle.world_heal.specs.Attempts.{HasTried, HasSpawned, IsStoppedWithin, HasRecovered, attempt_most}
 use Rattle.world_heal.proofs.Ways.{mark-rest, state_noted, setting-way, rest_way}
-use Rattle.world_heal.proofs.Trying.{can-from, may-from, can-noted, can-steady, setting-tried, state-tried, rest-tried, tried-none, tried-one, tried-then, tried-more, tried-mended, steady-mending, stopped-here, stopped-then, stopped-more, stopped-hit}
+use Rattle.world_heal.proofs.Trying.{holds-then, holds-noted, can-from, may-from, can-noted, can-steady, setting-tried, state-tried, rest-tried, tried-none, tried-one, tried-then, tried-more, tried-mended, steady-mending, stopped-here, stopped-then, stopped-more, stopped-hit}
 
 -- ---- the restore
 pub restore-tried : (old new : WorldView) → MayGoOn (setting_in old) old.journal → IsMade old new r.Restore → HasTried 1 old new
-restore-tried old new go made = tried-one old new r.Restore refl refl go made.noted
+restore-tried old new go made = tried-one old new r.Restore refl refl go (hold-restore (setting_in old) (state_of old)) made.noted
 
 lacks_restored : (spares : Option ℕ) (s : Setting) (st : State) (rank : ℕ) → LacksSpareOf spares s (after s st r.Restore) rank → LacksSpareOf spares s st rank
 lacks_restored None s st rank lacks = lacks
@@ -79,7 +83,7 @@ module _ (old mid new : WorldView) (go : MayGoOn (setting_in old) old.journal) (
   s = setting_in old
 
   abbrev way : HasTried (1 + ranks (setting_in mid)) old new
-  way = tried-then 1 (ranks (setting_in mid)) old mid new (tried-one old mid r.Restore refl refl go made.noted) h.tried
+  way = tried-then 1 (ranks (setting_in mid)) old mid new (tried-one old mid r.Restore refl refl go (hold-restore (setting_in old) (state_of old)) made.noted) h.tried
 
   same_setting : setting_in new ≡ s
   same_setting = setting-tried (1 + ranks (setting_in mid)) old new way
@@ -98,10 +102,12 @@ module _ (old mid new : WorldView) (go : MayGoOn (setting_in old) old.journal) (
       let few : rank < ranks (setting_in mid) = subst (λ n. rank < n) (sym (ap (λ (w : WorldView). ranks (setting_in w)) made.noted)) lt in
       subst (λ z. (state_after z new.journal).live rank ≡ true) same_setting (h.live rank few)
 
+  legal_old : IsLegal s new.journal → IsLegal s old.journal
+  legal_old legal = legal_before s (opened s) old.journal way.added (subst (λ j. IsLegal s j) way.journal legal)
+
   healing : IsMendable s → some_lost s (state_of old) ≡ true → 0 < s.capacity → IsLegal s new.journal → IsHealing s (rest_of old) next
   healing mendable lost some legal =
-      let before : IsLegal s old.journal = legal_before s (opened s) old.journal way.added (subst (λ j. IsLegal s j) way.journal legal) in
-      let known = of-journal s old.journal mendable.sensible before in
+      let known = of-journal s old.journal mendable.sensible (legal_old legal) in
       let now : state_after s new.journal ≡ next = ap (λ z. state_after z new.journal) (sym same_setting) ∙ same_state in
       healing-begins s (rest_of old) (state_of old) h.numbers mendable.sensible known.0 known.1 lost some
       (λ rank. ap (λ (st : State). st.live rank) (sym now) ∙ all_live s new.journal rank legal there)
@@ -116,6 +122,13 @@ module _ (old mid new : WorldView) (go : MayGoOn (setting_in old) old.journal) (
         within = subst (λ z. IsWithin z (state_of new)) (sym same_setting) (subst (λ st. IsWithin s st) (sym same_state) (within_spawns s (after s (state_of old) r.Restore) h.numbers go.within));
       }
 
+  -- and no rank has more than at the last commit
+  pub spawned-roomy : IsMendable s → IsLegal (setting_in new) new.journal → IsRoomy (setting_in new) (rest_of new) (state_of new)
+  spawned-roomy mendable legal =
+      let known = of-journal s old.journal mendable.sensible (legal_old (subst (λ z. IsLegal z new.journal) same_setting legal)) in
+      let begun : IsRoomy s (rest_of old) next = begins-roomy s (rest_of old) (state_of old) h.numbers known.1 in
+      subst (λ z. IsRoomy z (rest_of new) (state_of new)) (sym same_setting) (subst (λ last. IsRoomy s last (state_of new)) (sym same_rest) (subst (λ st. IsRoomy s (rest_of old) st) (sym same_state) begun))
+
 -- ---- the rounds
 mark_tried : (most : ℕ) (old new : WorldView) → HasTried most old new → (rest_of new).mark ≡ (state_of old).mark
 mark_tried most old new h = ap (λ (st : State). st.mark) (rest-tried most old new h) ∙ sym (mark-rest old)
@@ -127,11 +140,12 @@ few_rounds most n old new h =
     let same : grids_so_far (setting_in new) (rest_of new).mark n ≡ grids_so_far (setting_in old) (state_of old).mark n = λ i. grids_so_far (e i) (m i) n in
     omega (arith, same, few-grids (setting_in old) (state_of old).mark n)
 
-pub stopped-mending : (n : ℕ) (old mid new : WorldView) → HasTried (1 + ranks (setting_in old)) old mid → IsMending mid → IsHit (grids_so_far (setting_in mid) (rest_of mid).mark n) mid new
+pub stopped-mending : (n : ℕ) (old mid new : WorldView) → HasTried (1 + ranks (setting_in old)) old mid → IsMending mid → IsRoomy (setting_in mid) (rest_of mid) (state_of mid)
+    → IsHitMending (grids_so_far (setting_in mid) (rest_of mid).mark n) mid new
     → IsStoppedWithin (attempt_most (setting_in old) (state_of old).mark) old new
-stopped-mending n old mid new h mending hit =
+stopped-mending n old mid new h mending roomy hit =
     let most = grids_so_far (setting_in mid) (rest_of mid).mark n in
-    stopped-more (1 + ranks (setting_in old) + most) (attempt_most (setting_in old) (state_of old).mark) old new (stopped-then (1 + ranks (setting_in old)) most old mid new h (stopped-hit most mid new mending hit))
+    stopped-more (1 + ranks (setting_in old) + most) (attempt_most (setting_in old) (state_of old).mark) old new (stopped-then (1 + ranks (setting_in old)) most old mid new h (stopped-hit most mid new mending roomy hit))
     (omega (arith, few_rounds (1 + ranks (setting_in old)) n old mid h))
 
 -- all that is live is healed, and only the commit is left
@@ -140,11 +154,12 @@ pub record IsAllMended (old new : WorldView) : Type 0 where
   pub mending : IsMending new
   pub healed : IsAllHealed (setting_in new) (rest_of new) (state_of new)
 
-pub all-mended : (n : ℕ) (old mid new : WorldView) → HasTried (1 + ranks (setting_in old)) old mid → IsMending mid → HasMended (grids_so_far (setting_in mid) (rest_of mid).mark n) IsAllHealed mid new → IsAllMended old new
-all-mended n old mid new h mending k =
+pub all-mended : (n : ℕ) (old mid new : WorldView) → HasTried (1 + ranks (setting_in old)) old mid → IsMending mid → IsRoomy (setting_in mid) (rest_of mid) (state_of mid)
+    → HasMended (grids_so_far (setting_in mid) (rest_of mid).mark n) IsAllHealed mid new → IsAllMended old new
+all-mended n old mid new h mending roomy k =
     let most = grids_so_far (setting_in mid) (rest_of mid).mark n in
     record {
-      tried = tried-more (1 + ranks (setting_in old) + most) (attempt_most (setting_in old) (state_of old).mark) old new (tried-then (1 + ranks (setting_in old)) most old mid new h (tried-mended most IsAllHealed mid new mending k))
+      tried = tried-more (1 + ranks (setting_in old) + most) (attempt_most (setting_in old) (state_of old).mark) old new (tried-then (1 + ranks (setting_in old)) most old mid new h (tried-mended most IsAllHealed mid new mending roomy k))
           (omega (arith, few_rounds (1 + ranks (setting_in old)) n old mid h));
       mending = k.mending;
       healed = subst (λ s. IsAllHealed s (rest_of new) (state_of new)) (sym (setting-way mid new k.under_way)) (subst (λ last. IsAllHealed (setting_in mid) last (state_of new)) (sym (rest_way mid new k.under_way)) k.healed);
@@ -177,6 +192,10 @@ module _ (old new fin : WorldView) (h : IsAllMended old new) (made : fin ≡ not
       ∙ (ap (λ m. after (setting_in new) (state_of new) (r.Commit m true)) (sym (mark_tried _ old new h.tried))
       ∙ commit-returns (setting_in new) (rest_of new) (state_of new) h.mending.healing h.healed)
 
+  -- after it each rank holds at most what it may
+  commit_holds : HoldsWords new fin
+  commit_holds = holds-noted new fin commit (commit-holds (setting_in new) (state_of new) (state_of old).mark (mark-rest new ∙ mark_tried _ old new h.tried)) made
+
   recovered_by : HasRecovered old fin
   recovered_by = record {
     script = ap (λ (w : WorldView). w.script) made ∙ h.tried.script;
@@ -188,6 +207,7 @@ module _ (old new fin : WorldView) (h : IsAllMended old new) (made : fin ≡ not
     few = omega (arith, h.tried.few);
     goes = go_append (setting_in old) old.journal h.tried.added (commit ∷ []) h.tried.goes commit_goes;
     same = commit_back ∙ (λ i. with_spawned (rest-tried _ old new h.tried i) (ap (λ (st : State). st.spawned) (sym commit_back) i));
+    holds = holds-then old new fin (setting-tried _ old new h.tried) (rest-tried _ old new h.tried) h.tried.holds commit_holds;
   }
 
 pub recovered : (old new fin : WorldView) (mark : Mark) → IsAllMended old new → mark ≡ (state_of new).mark → IsMade new fin (r.Commit mark (is_hurt new)) → HasRecovered old fin

@@ -12,16 +12,18 @@ use Rattle.rank_machine.specs.Losses.{falls}
 use Rattle.run_laws.specs.Due.{numbered, has_fallen, ahead, is_due_in}
 use Rattle.run_laws.specs.LastCommit.{since, rest_after, with_spawned}
 use Rattle.run_laws.specs.Cuts.{MayGoOn, GoOnFrom, NoneGoesTooFar}
-use Rattle.run_laws.specs.Traces.{AreShort, AllHeal, spent, recovery_under}
+use Rattle.run_laws.specs.Traces.{AreShort, AllHeal, AlwaysHold, spent, recovery_under}
 use Rattle.block_world.specs.World.{WorldView, setting_in, state_of, fallen}
+use Rattle.block_world.proofs.HeldOnTheWay.{always-fallen}
 use Rattle.world_heal.specs.declared.healing.Drove.{Drove}
 use Rattle.world_heal.specs.declared.healing.Drove.TheVariants as d
 use Rattle.world_heal.specs.Ways.{IsLater, rest_of}
 use Rattle.world_heal.specs.Outcomes.{IsEnding, IsCutAt, IsHealed, IfDrove}
-use Rattle.world_heal.specs.Costs.{Heals, KeepsGoing, KeepsShort, HealsInTime}
+use Rattle.world_heal.specs.Costs.{Heals, KeepsGoing, KeepsShort, HealsInTime, HoldsWords}
 use Rattle.world_heal.specs.Attempts.{IsStoppedWithin, HasRecovered, attempt_most}
 use Rattle.world_heal.proofs.Ways.{mark-rest}
 use Rattle.world_heal.proofs.Later.{later-same, later-then, setting-later}
+use Rattle.world_heal.proofs.Trying.{rest-tried, holds-then}
 use Rattle.world_heal.proofs.Fallen.{with_losses}
 use Rattle.world_heal.proofs.Restarts.{BeginsAgain, begins-first, begins-again, begins-fewer, healed-last, healed-costs, healed-goes, healed-short, healed-in_time, over-in_time}
 
@@ -41,9 +43,10 @@ if_ending P Q s st (d.NoSpare rank) h q = q
 pub record BeginsIn (old now : WorldView) : Type 0 where
   pub later : IsLater old now
   pub begins : BeginsAgain (setting_in old) (recovery_under (setting_in old) (state_of old).mark) old.journal now.journal
+  pub holds : HoldsWords old now
 
 pub begins-here : (w : WorldView) → has_fallen w.journal ≡ true → some_lost (setting_in w) (state_of w) ≡ true → BeginsIn w w
-begins-here w fell lost = record { later = later-same w; begins = begins-first (setting_in w) (recovery_under (setting_in w) (state_of w).mark) w.journal fell lost }
+begins-here w fell lost = record { later = later-same w; begins = begins-first (setting_in w) (recovery_under (setting_in w) (state_of w).mark) w.journal fell lost; holds = λ measured before. before }
 
 module _ (old now : WorldView) (h : BeginsIn old now) where
   same : setting_in now ≡ setting_in old
@@ -94,6 +97,13 @@ module _ (old now : WorldView) (h : BeginsIn old now) where
     goes : GoOnFrom (setting_in old) now.journal k.tried.added
     goes = subst (λ s. GoOnFrom s now.journal k.tried.added) same k.tried.goes
 
+    rest_mid : rest_of mid ≡ rest_of old
+    rest_mid = rest-tried _ now mid k.tried ∙ rest_here
+
+    -- what falls leaves each rank with no more words
+    holds_fell : HoldsWords mid f
+    holds_fell measured before = subst (λ (v : WorldView). AlwaysHold (setting_in mid) v.journal) (sym e) (always-fallen mid before)
+
     pub begins-then : IsLegal (setting_in f) f.journal → BeginsIn old f
     begins-then legal =
         let fell : List Rec = falls (setting_in old).losses (numbered (now.journal ++ k.tried.added)) in
@@ -108,6 +118,7 @@ module _ (old now : WorldView) (h : BeginsIn old now) where
               });
           begins = subst (BeginsAgain (setting_in old) most old.journal) (sym journal_fell)
               (begins-again (setting_in old) most old.journal now.journal k.tried.added h.begins k.tried.numbered k.tried.plain few goes due there);
+          holds = holds-then old mid f same_mid rest_mid (holds-then old now mid same rest_here h.holds k.tried.holds) holds_fell;
         }
 
     pub then-fewer : ahead (setting_in old) f.journal < ahead (setting_in old) now.journal
@@ -152,3 +163,6 @@ module _ (old now : WorldView) (h : BeginsIn old now) where
     here-in_time recovery le heals =
         subst (AllHeal recovery (setting_in old)) (sym k.journal)
         (healed-in_time (setting_in old) bound old.journal now.journal k.added h.begins k.numbered k.plain few_records (state_of now).mark recovery le heals)
+
+    pub here-holds : HoldsWords old new
+    here-holds = holds-then old now new same rest_here h.holds k.holds

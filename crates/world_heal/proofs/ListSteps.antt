@@ -34,10 +34,11 @@ use Rattle.recovery_counts.proofs.StripCounts.{few-copies}
 use Rattle.recovery_rounds.specs.Mending.{Events, copy_events}
 use Rattle.recovery_rounds.specs.Rows.{IsHealing, IsRowHealed, IsListHealed, ReachAllLost}
 use Rattle.recovery_rounds.proofs.Stays.{list-legal, list-heals, list-leaves, list-goes_on}
-use Rattle.world_heal.specs.Ways.{IsHit, rest_of}
-use Rattle.world_heal.specs.Mended.{IsMendable, IsMending, HasMended, KeepsHealed}
+use Rattle.recovery_words.proofs.RowSizes.{copies-end_roomy, copies-hold}
+use Rattle.world_heal.specs.Ways.{rest_of}
+use Rattle.world_heal.specs.Mended.{IsMendable, IsMending, HasMended, IsHitMending, KeepsHealed}
 use Rattle.world_heal.proofs.Ways.{mark-rest}
-use Rattle.world_heal.proofs.Steps.{mended-round, hit-round}
+use Rattle.world_heal.proofs.Steps.{HoldsRound, mended-round, hit-round}
 use Rattle.world_heal.proofs.Within.{copies-within}
 use Rattle.world_heal.proofs.RowRounds.{live-made, list-factors}
 
@@ -129,6 +130,9 @@ module _ (w : WorldView) (line factors : ℕ) (g : Grid) (round : Events) (h : I
   few_records : length (records_of made) ≤ list_most (layout (setting_in w) (factored (setting_in w) line))
   few_records = few-copies (state_of w) (layout (setting_in w) (factored (setting_in w) line)) (slot_at Pivots line 0) list_lost
 
+  holds_made : HoldsRound (setting_in w) (rest_of w) (state_of w) made
+  holds_made roomy measured = copies-hold (setting_in w) (rest_of w) (state_of w) line pairs measured h.healing live reach_all roomy
+
   pub list-ranks : All (IsWithin (ranks (setting_in w))) round
   list-ranks = subst (λ (es : Events). All (IsWithin (ranks (setting_in w))) es) (sym same_round) (copies-within (setting_in w) (state_of w) (layout (setting_in w) (factored (setting_in w) line)).grid (slot_at Pivots line 0) pairs run_grid reach_all)
 
@@ -143,12 +147,13 @@ module _ (w : WorldView) (line factors : ℕ) (g : Grid) (round : Events) (h : I
       (mended-round w w' made order order' run.0 (list_most (layout (setting_in w) (factored (setting_in w) line))) few_records (λ (s : Setting) (last now : State). IsListHealed s last now line) ran_made h
       (list-goes_on (setting_in w) (rest_of w) (state_of w) line pairs h.healing live run_grid reach_all)
       (list-keeps (setting_in w) (rest_of w) (state_of w) line pairs h.mendable h.healing live reach_all)
-      (list-heals (setting_in w) (rest_of w) (state_of w) line pairs h.healing live run_grid reach_all))
+      (list-heals (setting_in w) (rest_of w) (state_of w) line pairs h.healing live run_grid reach_all)
+      (copies-end_roomy (setting_in w) (rest_of w) (state_of w) line pairs h.healing live reach_all) holds_made)
 
-  pub list-hit : (w' : WorldView) (order order' : List ℕ) → ((noted : List (Action Kernel Piece)) × IsRoundOf w w' round order order' ran.Hit noted) → IsHit (list_most (layout (setting_in w) factors)) w w'
+  pub list-hit : (w' : WorldView) (order order' : List ℕ) → ((noted : List (Action Kernel Piece)) × IsRoundOf w w' round order order' ran.Hit noted) → IsHitMending (list_most (layout (setting_in w) factors)) w w'
   list-hit w' order order' run =
       let ran_made = subst (λ (es : Events). IsRoundOf w w' es order order' ran.Hit run.0) same_round run.1 in
-      subst (λ k. IsHit (list_most (layout (setting_in w) k)) w w') of (hit-round w w' made order order' run.0 (list_most (layout (setting_in w) (factored (setting_in w) line))) few_records ran_made)
+      subst (λ k. IsHitMending (list_most (layout (setting_in w) k)) w w') of (hit-round w w' made order order' run.0 (list_most (layout (setting_in w) (factored (setting_in w) line))) few_records ran_made holds_made)
 
 -- the ranks lost of each row of its grid are few
 pub list-row_few : (w : WorldView) (line factors : ℕ) (g : Grid) → IsMending w → is_live_list (setting_in w) (rest_of w).mark line ≡ true → factored (setting_in w) line ≡ factors → g ≡ (layout (setting_in w) factors).grid

@@ -17,8 +17,8 @@ use Rattle.block_world.specs.World.{WorldView, setting_in, state_of}
 use Rattle.recovery_counts.specs.Counted.{job_at, matrix_on, list_on, matrices_so_far, lists_so_far, grid_most, grids_so_far}
 use Rattle.recovery_counts.proofs.TableJobs.{as-long, lines-jobs}
 use Rattle.recovery_rounds.specs.Rows.{IsListHealed, IsAllHealed}
-use Rattle.world_heal.specs.Ways.{IfDone, IsUnderWay, IsHit, rest_of}
-use Rattle.world_heal.specs.Mended.{IsMendable, IsTable, IsMending, KeepsHealed, HasMended, IsMatrixHealed, AreMatricesHealed, AreListsHealed, IsGridHealed, AreGridsHealed}
+use Rattle.world_heal.specs.Ways.{IfDone, IsUnderWay, rest_of}
+use Rattle.world_heal.specs.Mended.{IsMendable, IsTable, IsMending, KeepsHealed, HasMended, IsHitMending, IsMatrixHealed, AreMatricesHealed, AreListsHealed, IsGridHealed, AreGridsHealed}
 use Rattle.world_heal.proofs.Ways.{setting-way, mark-rest}
 use Rattle.world_heal.proofs.Outcomes.{if_ok, if_done}
 use Rattle.world_heal.proofs.Steps.{mended-none, mended-then, mended-so, hit-then, hit-more}
@@ -70,25 +70,25 @@ module _ (w : WorldView) (number : ℕ) where
 
   -- what becomes of it where it is live there
   pub matrix-outcome : {E : Type 0} (w' : WorldView) (line : ℕ) → is_live_matrix (setting_in w) (rest_of w).mark line ≡ true → (layout (setting_in w) line).desc.ctxt ≡ number → (r : Result Did E) →
-      IfOk r (IfDone (HasMended (matrix_most (layout (setting_in w) line)) (IsMatrixHealed line) w w') (IsHit (matrix_most (layout (setting_in w) line)) w w')) →
-      IfOk r (IfDone (HasMended (matrix_on (setting_in w) (rest_of w).mark number (no_job line)) (IsMatrixOn number line) w w') (IsHit (matrix_on (setting_in w) (rest_of w).mark number (no_job line)) w w'))
+      IfOk r (IfDone (HasMended (matrix_most (layout (setting_in w) line)) (IsMatrixHealed line) w w') (IsHitMending (matrix_most (layout (setting_in w) line)) w w')) →
+      IfOk r (IfDone (HasMended (matrix_on (setting_in w) (rest_of w).mark number (no_job line)) (IsMatrixOn number line) w w') (IsHitMending (matrix_on (setting_in w) (rest_of w).mark number (no_job line)) w w'))
   matrix-outcome w' line live on r h =
       let few = matrix_most (layout (setting_in w) line) in
       let most = matrix_on (setting_in w) (rest_of w).mark number (no_job line) in
       let le : few ≤ most = matrix-counted line live on in
-      if_ok (IfDone (HasMended few (IsMatrixHealed line) w w') (IsHit few w w')) (IfDone (HasMended most (IsMatrixOn number line) w w') (IsHit most w w'))
-      (λ d. if_done (HasMended few (IsMatrixHealed line) w w') (HasMended most (IsMatrixOn number line) w w') (IsHit few w w') (IsHit most w w')
+      if_ok (IfDone (HasMended few (IsMatrixHealed line) w w') (IsHitMending few w w')) (IfDone (HasMended most (IsMatrixOn number line) w w') (IsHitMending most w w'))
+      (λ d. if_done (HasMended few (IsMatrixHealed line) w w') (HasMended most (IsMatrixOn number line) w w') (IsHitMending few w w') (IsHitMending most w w')
       (λ m. mended-so w w' few most (IsMatrixHealed line) (IsMatrixOn number line) m le (λ healed _ _. healed)) (λ hit. hit-more w w' few most hit le) d) r h
 
   pub list-outcome : {E : Type 0} (w' : WorldView) (x : Line) → is_live_list (setting_in w) (rest_of w).mark x.line ≡ true → (layout (setting_in w) x.factors).desc.ctxt ≡ number → (r : Result Did E) →
-      IfOk r (IfDone (HasMended (list_most (layout (setting_in w) x.factors)) (IsListNow x.line) w w') (IsHit (list_most (layout (setting_in w) x.factors)) w w')) →
-      IfOk r (IfDone (HasMended (list_on (setting_in w) (rest_of w).mark number (job_seen x)) (IsListOn number x.line x.factors) w w') (IsHit (list_on (setting_in w) (rest_of w).mark number (job_seen x)) w w'))
+      IfOk r (IfDone (HasMended (list_most (layout (setting_in w) x.factors)) (IsListNow x.line) w w') (IsHitMending (list_most (layout (setting_in w) x.factors)) w w')) →
+      IfOk r (IfDone (HasMended (list_on (setting_in w) (rest_of w).mark number (job_seen x)) (IsListOn number x.line x.factors) w w') (IsHitMending (list_on (setting_in w) (rest_of w).mark number (job_seen x)) w w'))
   list-outcome w' x live on r h =
       let few = list_most (layout (setting_in w) x.factors) in
       let most = list_on (setting_in w) (rest_of w).mark number (job_seen x) in
       let le : few ≤ most = list-counted x live on in
-      if_ok (IfDone (HasMended few (IsListNow x.line) w w') (IsHit few w w')) (IfDone (HasMended most (IsListOn number x.line x.factors) w w') (IsHit most w w'))
-      (λ d. if_done (HasMended few (IsListNow x.line) w w') (HasMended most (IsListOn number x.line x.factors) w w') (IsHit few w w') (IsHit most w w')
+      if_ok (IfDone (HasMended few (IsListNow x.line) w w') (IsHitMending few w w')) (IfDone (HasMended most (IsListOn number x.line x.factors) w w') (IsHitMending most w w'))
+      (λ d. if_done (HasMended few (IsListNow x.line) w w') (HasMended most (IsListOn number x.line x.factors) w w') (IsHitMending few w w') (IsHitMending most w w')
       (λ m. mended-so w w' few most (IsListNow x.line) (IsListOn number x.line x.factors) m le (λ healed _ _. healed)) (λ hit. hit-more w w' few most hit le) d) r h
 
   -- and where it is not
@@ -153,10 +153,10 @@ module _ (table : List Line) (number i : ℕ) (a b c : WorldView) (is : IsTable 
       (omega (arith, same-matrix h.under_way)) (λ m. subst (λ line. IsMatrixOn number line (setting_in b) (rest_of b) (state_of c)) (sym (line-at h.under_way)) m))
 
   pub matrices-hit : i < length table → HasMended (matrices_so_far (setting_in a) (rest_of a).mark number i) (AreMatricesHealed number i) a b →
-      IsHit (matrix_on (setting_in b) (rest_of b).mark number (no_job asked.line)) b c → IsHit (matrices_so_far (setting_in a) (rest_of a).mark number (length (setting_in a).jobs)) a c
+      IsHitMending (matrix_on (setting_in b) (rest_of b).mark number (no_job asked.line)) b c → IsHitMending (matrices_so_far (setting_in a) (rest_of a).mark number (length (setting_in a).jobs)) a c
   matrices-hit lt h hit =
       one-hit (matrix_most_at number) (MatrixAt number) a b c i (length (setting_in a).jobs) (omega (arith, lt, as-long (setting_in a) table is.lines)) h
-      (subst (λ m. IsHit m b c) (same-matrix h.under_way) hit)
+      (subst (λ m. IsHitMending m b c) (same-matrix h.under_way) hit)
 
   pub lists-more : HasMended (lists_so_far (setting_in a) (rest_of a).mark number i) (AreListsHealed number i) a b →
       HasMended (list_on (setting_in b) (rest_of b).mark number (job_seen asked)) (IsListOn number asked.line asked.factors) b c →
@@ -169,10 +169,10 @@ module _ (table : List Line) (number i : ℕ) (a b c : WorldView) (is : IsTable 
       subst (λ factors. IsListOn number (job_at (setting_in b) i).line factors (setting_in b) (rest_of b) (state_of c)) (sym (factors-at h.under_way)) at))
 
   pub lists-hit : i < length table → HasMended (lists_so_far (setting_in a) (rest_of a).mark number i) (AreListsHealed number i) a b →
-      IsHit (list_on (setting_in b) (rest_of b).mark number (job_seen asked)) b c → IsHit (lists_so_far (setting_in a) (rest_of a).mark number (length (setting_in a).jobs)) a c
+      IsHitMending (list_on (setting_in b) (rest_of b).mark number (job_seen asked)) b c → IsHitMending (lists_so_far (setting_in a) (rest_of a).mark number (length (setting_in a).jobs)) a c
   lists-hit lt h hit =
       one-hit (list_most_at number) (ListAt number) a b c i (length (setting_in a).jobs) (omega (arith, lt, as-long (setting_in a) table is.lines)) h
-      (subst (λ m. IsHit m b c) (same-list h.under_way) hit)
+      (subst (λ m. IsHitMending m b c) (same-list h.under_way) hit)
 
 -- ---- at the end of the table
 module _ (table : List Line) (number : ℕ) (a b : WorldView) (is : IsTable (setting_in a) table) where
@@ -198,13 +198,13 @@ module _ (number : ℕ) (a b c : WorldView) where
   abbrev lists_most : WorldView → ℕ
   lists_most w = lists_so_far (setting_in w) (rest_of w).mark number (length (setting_in w).jobs)
 
-  pub grid-hit_first : IsHit (matrices_most a) a b → IsHit (grid_most (setting_in a) (rest_of a).mark number) a b
+  pub grid-hit_first : IsHitMending (matrices_most a) a b → IsHitMending (grid_most (setting_in a) (rest_of a).mark number) a b
   grid-hit_first hit = hit-more a b (matrices_most a) (grid_most (setting_in a) (rest_of a).mark number) hit (omega arith)
 
-  pub grid-hit : HasMended (matrices_most a) (AreMatricesHealed number (length (setting_in a).jobs)) a b → IsHit (lists_most b) b c → IsHit (grid_most (setting_in a) (rest_of a).mark number) a c
+  pub grid-hit : HasMended (matrices_most a) (AreMatricesHealed number (length (setting_in a).jobs)) a b → IsHitMending (lists_most b) b c → IsHitMending (grid_most (setting_in a) (rest_of a).mark number) a c
   grid-hit h hit =
       hit-then a b c (matrices_most a) (lists_most a) (grid_most (setting_in a) (rest_of a).mark number) (AreMatricesHealed number (length (setting_in a).jobs)) h
-      (said-before a b (λ s mark. IsHit (lists_so_far s mark number (length s.jobs)) b c) h.under_way hit) (omega arith)
+      (said-before a b (λ s mark. IsHitMending (lists_so_far s mark number (length s.jobs)) b c) h.under_way hit) (omega arith)
 
   pub grid-mended : HasMended (matrices_most a) (AreMatricesHealed number (length (setting_in a).jobs)) a b → HasMended (lists_most b) (AreListsHealed number (length (setting_in b).jobs)) b c →
       HasMended (grid_most (setting_in a) (rest_of a).mark number) (IsGridHealed number) a c
@@ -216,13 +216,13 @@ module _ (number : ℕ) (a b c : WorldView) where
 
   -- whatever becomes of the lists
   pub grid-outcome : {E : Type 0} → HasMended (matrices_most a) (AreMatricesHealed number (length (setting_in a).jobs)) a b → (r : Result Did E) →
-      IfOk r (IfDone (HasMended (lists_most b) (AreListsHealed number (length (setting_in b).jobs)) b c) (IsHit (lists_most b) b c)) →
-      IfOk r (IfDone (HasMended (grid_most (setting_in a) (rest_of a).mark number) (IsGridHealed number) a c) (IsHit (grid_most (setting_in a) (rest_of a).mark number) a c))
+      IfOk r (IfDone (HasMended (lists_most b) (AreListsHealed number (length (setting_in b).jobs)) b c) (IsHitMending (lists_most b) b c)) →
+      IfOk r (IfDone (HasMended (grid_most (setting_in a) (rest_of a).mark number) (IsGridHealed number) a c) (IsHitMending (grid_most (setting_in a) (rest_of a).mark number) a c))
   grid-outcome h r lists =
       let Mended = HasMended (lists_most b) (AreListsHealed number (length (setting_in b).jobs)) b c in
-      let Hit = IsHit (lists_most b) b c in
+      let Hit = IsHitMending (lists_most b) b c in
       let Mended' = HasMended (grid_most (setting_in a) (rest_of a).mark number) (IsGridHealed number) a c in
-      let Hit' = IsHit (grid_most (setting_in a) (rest_of a).mark number) a c in
+      let Hit' = IsHitMending (grid_most (setting_in a) (rest_of a).mark number) a c in
       if_ok (IfDone Mended Hit) (IfDone Mended' Hit') (λ d. if_done Mended Mended' Hit Hit' (grid-mended h) (grid-hit h) d) r lists
 
 -- ---- grid by grid
@@ -234,8 +234,8 @@ module _ (a b c : WorldView) (number : ℕ) where
       HasMended (grids_so_far (setting_in a) (rest_of a).mark (number + 1)) (AreGridsHealed (number + 1)) a c
   grids-more h k = one-more grid_most IsGridHealed grid-stays a b c number h k
 
-  pub grids-hit : (n : ℕ) → number < n → HasMended (grids_so_far (setting_in a) (rest_of a).mark number) (AreGridsHealed number) a b → IsHit (grid_most (setting_in b) (rest_of b).mark number) b c →
-      IsHit (grids_so_far (setting_in a) (rest_of a).mark n) a c
+  pub grids-hit : (n : ℕ) → number < n → HasMended (grids_so_far (setting_in a) (rest_of a).mark number) (AreGridsHealed number) a b → IsHitMending (grid_most (setting_in b) (rest_of b).mark number) b c →
+      IsHitMending (grids_so_far (setting_in a) (rest_of a).mark n) a c
   grids-hit n lt h hit = one-hit grid_most IsGridHealed a b c number n lt h hit
 
 -- all that is live lies on some grid of the run, and its job stands at some place

@@ -8,18 +8,18 @@ use Rattle.rank_machine.specs.State.{State}
 use Rattle.block_world.specs.World.{WorldView, setting_in, state_of}
 use Rattle.block_world.specs.declared.world.Did.{Did}
 use Rattle.block_world.specs.declared.world.Did.TheVariants as did
-use Rattle.world_heal.specs.Ways.{IfDone, IsUnderWay, IsHit, rest_of}
-use Rattle.world_heal.specs.Mended.{IsMending, KeepsHealed, HasMended}
+use Rattle.world_heal.specs.Ways.{IfDone, IsUnderWay, rest_of}
+use Rattle.world_heal.specs.Mended.{IsMending, KeepsHealed, HasMended, IsHitMending}
 use Rattle.world_heal.proofs.Ways.{setting-way, rest_way}
 use Rattle.world_heal.proofs.Steps.{Healed, mended-none, mended-then, mended-so, hit-then}
 
 -- ---- which of two outcomes came
 module _ (most : ℕ) (P : Healed) (w w' : WorldView) where
-  pub at_done : (d : Did) → d ≡ did.Done → IfDone (HasMended most P w w') (IsHit most w w') d → HasMended most P w w'
-  at_done d e h = subst (λ x. IfDone (HasMended most P w w') (IsHit most w w') x) e h
+  pub at_done : (d : Did) → d ≡ did.Done → IfDone (HasMended most P w w') (IsHitMending most w w') d → HasMended most P w w'
+  at_done d e h = subst (λ x. IfDone (HasMended most P w w') (IsHitMending most w w') x) e h
 
-  pub at_hit : (d : Did) → d ≡ did.Hit → IfDone (HasMended most P w w') (IsHit most w w') d → IsHit most w w'
-  at_hit d e h = subst (λ x. IfDone (HasMended most P w w') (IsHit most w w') x) e h
+  pub at_hit : (d : Did) → d ≡ did.Hit → IfDone (HasMended most P w w') (IsHitMending most w w') d → IsHitMending most w w'
+  at_hit d e h = subst (λ x. IfDone (HasMended most P w w') (IsHitMending most w w') x) e h
 
 -- what is said of the setting and the last mark of a world under way is said of those where it began
 pub said-before : (a b : WorldView) (P : Setting → Mark → Type 0) → IsUnderWay a b → P (setting_in b) (rest_of b).mark → P (setting_in a) (rest_of a).mark
@@ -55,7 +55,7 @@ module _ (most : Setting → Mark → ℕ → ℕ) (P : ℕ → Healed) where
       (omega (arith, same-most a b i h.under_way, sum_to-more i (most (setting_in a) (rest_of a).mark))) (λ x. x)
 
   -- a loss comes among the records of a thing
-  pub one-hit : (a b c : WorldView) (i n : ℕ) → i < n → HasMended (most_before a i) (AllBelow P i) a b → IsHit (most (setting_in b) (rest_of b).mark i) b c → IsHit (most_before a n) a c
+  pub one-hit : (a b c : WorldView) (i n : ℕ) → i < n → HasMended (most_before a i) (AllBelow P i) a b → IsHitMending (most (setting_in b) (rest_of b).mark i) b c → IsHitMending (most_before a n) a c
   one-hit a b c i n lt h hit =
       hit-then a b c (most_before a i) (most (setting_in b) (rest_of b).mark i) (most_before a n) (AllBelow P i) h hit
       (omega (arith, same-most a b i h.under_way, sum_to-more i (most (setting_in a) (rest_of a).mark), sum-grows (most (setting_in a) (rest_of a).mark) (i + 1) n (omega (arith, lt))))

@@ -34,14 +34,15 @@ use Rattle.recovery_rounds.specs.Mending.{Events}
 use Rattle.recovery_rounds.specs.Rows.{row_events, IsHealing, AreCoefficients, IsRowHealed, IsListHealed, LeavesOthers}
 use Rattle.recovery_rounds.proofs.StateRounds.{round-legal, round-heals, round-leaves, round-goes_on}
 use Rattle.recovery_rounds.proofs.Stays.{row-stays}
+use Rattle.recovery_words.proofs.RowSizes.{row-ends_roomy, row-holds}
 use Rattle.recovery_code.specs.Spots.{Spot, spot_under, row_data_at, row_code_at, Decode}
 use Rattle.recovery_code.proofs.Spotted.{row_is}
 use Rattle.recovery_counts.specs.Counted.{round_most}
 use Rattle.recovery_counts.proofs.StripCounts.{few-round}
 use Rattle.recovery_counts.proofs.Judged.{matrix-few}
-use Rattle.world_heal.specs.Ways.{IsHit, rest_of}
-use Rattle.world_heal.specs.Mended.{IsMendable, IsMending, KeepsHealed, HasMended}
-use Rattle.world_heal.proofs.Steps.{mended-round, hit-round}
+use Rattle.world_heal.specs.Ways.{rest_of}
+use Rattle.world_heal.specs.Mended.{IsMendable, IsMending, KeepsHealed, HasMended, IsHitMending}
+use Rattle.world_heal.proofs.Steps.{EndsRoomy, HoldsRound, mended-round, hit-round}
 use Rattle.world_heal.proofs.Within.{row-within}
 
 -- ---- what is live
@@ -86,6 +87,8 @@ pub record HealsRow (s : Setting) (last now : State) (most line row group : ℕ)
   pub healing : IsHealing s last (replay s now (records_of es))
   pub keeps : KeepsHealed s last now (replay s now (records_of es))
   pub healed : IsRowHealed s last (replay s now (records_of es)) line row group
+  pub roomy : EndsRoomy s last now es
+  pub holds : HoldsRound s last now es
 
 module _ (s : Setting) (last now : State) (line row group : ℕ) (coefficients : ℕ → List ℕ) (mendable : IsMendable s) (healing : IsHealing s last now) (live : is_live_matrix s last.mark line ≡ true)
     (hr : row < (layout s line).grid.p) (hg : group < group_count (layout s line)) (given : AreCoefficients s now (layout s line).grid row coefficients) where
@@ -141,6 +144,8 @@ module _ (s : Setting) (last now : State) (line row group : ℕ) (coefficients :
     healing = round-goes_on s last now line row group coefficients healing live of_run hr hg given;
     keeps = record { rows = λ line' row' group' live' hr' hg' h. rows_stay line' row' group' live' hr' h; lists = lists_stay };
     healed = heals;
+    roomy = row-ends_roomy s last now line row group coefficients healing live hr hg;
+    holds = λ roomy measured. row-holds s last now line row group coefficients measured healing live hr hg roomy;
   }
 
 -- ---- as the code makes it
@@ -198,10 +203,10 @@ pub row-mended : (w w' : WorldView) (es : Events) (order order' : List ℕ) (end
     → ended ≡ ran.Whole → ((noted : List (Action Kernel Piece)) × IsRoundOf w w' es order order' ended noted) → HasMended most (λ s last now. IsRowHealed s last now line row group) w w'
 row-mended w w' es order order' ended most line row group mending h whole made =
     let made' = subst (λ e. (noted : List (Action Kernel Piece)) × IsRoundOf w w' es order order' e noted) whole made in
-    mended-round w w' es order order' made'.0 most h.few (λ s last now. IsRowHealed s last now line row group) made'.1 mending h.healing h.keeps h.healed
+    mended-round w w' es order order' made'.0 most h.few (λ s last now. IsRowHealed s last now line row group) made'.1 mending h.healing h.keeps h.healed h.roomy h.holds
 
 pub row-hit : (w w' : WorldView) (es : Events) (order order' : List ℕ) (ended : Ran) (most line row group : ℕ) → HealsRow (setting_in w) (rest_of w) (state_of w) most line row group es
-    → ended ≡ ran.Hit → ((noted : List (Action Kernel Piece)) × IsRoundOf w w' es order order' ended noted) → IsHit most w w'
+    → ended ≡ ran.Hit → ((noted : List (Action Kernel Piece)) × IsRoundOf w w' es order order' ended noted) → IsHitMending most w w'
 row-hit w w' es order order' ended most line row group h hit made =
     let made' = subst (λ e. (noted : List (Action Kernel Piece)) × IsRoundOf w w' es order order' e noted) hit made in
-    hit-round w w' es order order' made'.0 most h.few made'.1
+    hit-round w w' es order order' made'.0 most h.few made'.1 h.holds

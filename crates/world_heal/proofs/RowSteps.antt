@@ -24,19 +24,19 @@ use Rattle.recovery_code.specs.Spots.{Spot, spot_under}
 use Rattle.recovery_counts.specs.Counted.{round_most}
 use Rattle.recovery_rounds.specs.Rows.{IsRowHealed}
 use Rattle.recovery_rounds.proofs.StateRounds.{row-whole}
-use Rattle.world_heal.specs.Ways.{IfDone, IsHit, IsUnderWay, rest_of}
-use Rattle.world_heal.specs.Mended.{some_in, IsTable, IsMending, HasMended, AreGroupsHealed, AreRowsHealed, IsMatrixHealed}
+use Rattle.world_heal.specs.Ways.{IfDone, IsUnderWay, rest_of}
+use Rattle.world_heal.specs.Mended.{some_in, IsTable, IsMending, HasMended, IsHitMending, AreGroupsHealed, AreRowsHealed, IsMatrixHealed}
 use Rattle.world_heal.proofs.Ways.{setting-way, rest_way, run_way, mark-rest}
 use Rattle.world_heal.proofs.Steps.{Healed, mended-none, mended-then, mended-so, hit-then}
 use Rattle.world_heal.proofs.RowRounds.{live-made}
 
 -- ---- which of two outcomes came
 module _ (most : ℕ) (P : Healed) (a b : WorldView) where
-  pub when_done : (d : Did) → d ≡ did.Done → IfDone (HasMended most P a b) (IsHit most a b) d → HasMended most P a b
-  when_done d e h = subst (λ x. IfDone (HasMended most P a b) (IsHit most a b) x) e h
+  pub when_done : (d : Did) → d ≡ did.Done → IfDone (HasMended most P a b) (IsHitMending most a b) d → HasMended most P a b
+  when_done d e h = subst (λ x. IfDone (HasMended most P a b) (IsHitMending most a b) x) e h
 
-  pub when_hit : (d : Did) → d ≡ did.Hit → IfDone (HasMended most P a b) (IsHit most a b) d → IsHit most a b
-  when_hit d e h = subst (λ x. IfDone (HasMended most P a b) (IsHit most a b) x) e h
+  pub when_hit : (d : Did) → d ≡ did.Hit → IfDone (HasMended most P a b) (IsHitMending most a b) d → IsHitMending most a b
+  when_hit d e h = subst (λ x. IfDone (HasMended most P a b) (IsHitMending most a b) x) e h
 
 -- ---- one more of several things, each of which takes at most so many records
 one_more : (n most : ℕ) → n * most + most ≤ (n + 1) * most
@@ -45,7 +45,7 @@ one_more n most = omega arith
 one_of : (n all most : ℕ) → n < all → n * most + most ≤ all * most
 one_of n all most lt = (let more : (n + 1) * most ≤ all * most = mul-le (n + 1) most all most (omega arith) (omega arith) in let here : (n + 1) * most ≡ n * most + most = omega arith in omega (arith, more, here))
 
-pub one-hit : (a b c : WorldView) (n all most most' : ℕ) (P : Healed) → most' ≡ most → n < all → HasMended (n * most) P a b → IsHit most' b c → IsHit (all * most) a c
+pub one-hit : (a b c : WorldView) (n all most most' : ℕ) (P : Healed) → most' ≡ most → n < all → HasMended (n * most) P a b → IsHitMending most' b c → IsHitMending (all * most) a c
 one-hit a b c n all most most' P same lt h hit = hit-then a b c (n * most) most' (all * most) P h hit (omega (arith, same, one_of n all most lt))
 
 -- ---- where a script's table says that a matrix and a group are, and what the world says of it
@@ -199,10 +199,10 @@ module _ (a b : WorldView) (line n : ℕ) (h : HasMended (n * row_most (layout (
       ]))
       (one_more n (row_most d)) (λ x. x)
 
-  pub rows-hit : (c : WorldView) → n < (layout (setting_in a) line).grid.p → IsHit (row_most (layout (setting_in b) line)) b c → IsHit (matrix_most (layout (setting_in a) line)) a c
+  pub rows-hit : (c : WorldView) → n < (layout (setting_in a) line).grid.p → IsHitMending (row_most (layout (setting_in b) line)) b c → IsHitMending (matrix_most (layout (setting_in a) line)) a c
   rows-hit c hr hit =
       let d = layout (setting_in a) line in
-      subst (λ k. IsHit k a c) (all_rows d)
+      subst (λ k. IsHitMending k a c) (all_rows d)
       (one-hit a b c n d.grid.p (row_most d) (row_most (layout (setting_in b) line)) (AreRowsHealed line n) (ap (λ s. row_most (layout s line)) here) hr h hit)
 
   pub rows-all : n ≡ (layout (setting_in a) line).grid.p → HasMended (matrix_most (layout (setting_in a) line)) (IsMatrixHealed line) a b

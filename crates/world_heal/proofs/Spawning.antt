@@ -12,6 +12,7 @@ use Rattle.rank_machine.specs.Effect.{after, replay, state_after}
 use Rattle.rank_machine.specs.Legal.{has_spare, IsSpawn, IsLegalRec, IsLegalFrom, IsLegal}
 use Rattle.rank_machine.specs.Losses.{LacksSpareOf}
 use Rattle.run_laws.specs.Cuts.{MayGoOn}
+use Rattle.run_laws.proofs.Words.{hold-spawn}
 use Rattle.recovery_rounds.specs.Rows.{spawn_records}
 use Rattle.block_world.specs.World.{WorldView, setting_in, state_of}
 use Rattle.block_world.specs.Did.{IsMade, IsStopped}
@@ -131,7 +132,7 @@ spawning-legal rank old mid h lt dead legal = may_spawn (setting_in mid) mid.jou
 
 pub spawning-next : (rank : ℕ) (old mid new : WorldView) → IsSpawning rank old mid → (state_of mid).live rank ≡ false → IsMade mid new (r.Spawn rank) → IsSpawning (rank + 1) old new
 spawning-next rank old mid new h dead made = record {
-  tried = tried-then rank 1 old mid new h.tried (tried-one mid new (r.Spawn rank) refl refl (may-from (setting_in mid) mid.journal h.go) made.noted);
+  tried = tried-then rank 1 old mid new h.tried (tried-one mid new (r.Spawn rank) refl refl (may-from (setting_in mid) mid.journal h.go) (hold-spawn (setting_in mid) (state_of mid) rank) made.noted);
   numbers = h.numbers ++ rank ∷ [];
   spawns = ap (λ xs. xs ++ r.Spawn rank ∷ []) h.spawns ∙ sym (spawns_append h.numbers (rank ∷ []));
   live = λ i lt. ap (λ (st : State). st.live i) (state_noted mid new (r.Spawn rank) made.noted) ∙ live_below (state_of mid).live rank i h.live lt;

@@ -11,6 +11,7 @@ use Rattle.run_laws.specs.Cuts.{GoOnFrom}
 use Rattle.run_laws.specs.Traces.{recovery_of, recovery_under}
 use Rattle.block_world.specs.World.{WorldView, setting_in, state_of, is_due}
 use Rattle.world_heal.specs.Ways.{rest_of}
+use Rattle.world_heal.specs.Costs.{HoldsWords}
 
 -- at most so many records were made, no losses and no commits, each where the run might go on
 pub record HasTried (most : ℕ) (old new : WorldView) : Type 0 where
@@ -22,6 +23,7 @@ pub record HasTried (most : ℕ) (old new : WorldView) : Type 0 where
   pub plain : All (λ x. is_commit x ≡ false) added
   pub few : length added ≤ most
   pub goes : GoOnFrom (setting_in old) old.journal added
+  pub holds : HoldsWords old new
 
 -- and then a loss is due
 pub record IsStoppedWithin (most : ℕ) (old new : WorldView) : Type 0 where
@@ -50,3 +52,4 @@ pub record HasRecovered (old new : WorldView) : Type 0 where
   pub few : length added < recovery_under (setting_in old) (state_of old).mark
   pub goes : GoOnFrom (setting_in old) old.journal (added ++ r.Commit (state_of old).mark true ∷ [])
   pub same : state_of new ≡ with_spawned (rest_of old) (state_of new).spawned
+  pub holds : HoldsWords old new

@@ -1,8 +1,11 @@
 -- How many records healing takes, and that its commit comes in time.
 use Rattle.std.specs.Prelude.{◌≤◌, ◌+◌, ℕ}
 use Rattle.run_laws.specs.Cuts.{NoneGoesTooFar}
-use Rattle.run_laws.specs.Traces.{AreShort, AllHeal, AllHealSoFar, spent, recovery_under}
+use Rattle.run_laws.specs.Traces.{AreShort, AllHeal, AllHealSoFar, AlwaysHold, spent, recovery_under}
+use Rattle.phase_words.specs.Resting.{IsMeasured}
+use Rattle.recovery_words.specs.Roomy.{IsRoomy}
 use Rattle.block_world.specs.World.{WorldView, setting_in, state_of}
+use Rattle.world_heal.specs.Ways.{rest_of}
 
 -- where each loss still to fall is counted as a recovery, no more than one is new
 abbrev pub Heals : WorldView → WorldView → Type 0
@@ -23,3 +26,20 @@ KeepsHealing recovery old new = AllHeal recovery (setting_in old) old.journal �
 -- the same, where the last losses have just fallen
 abbrev pub HealsInTime : WorldView → WorldView → Type 0
 HealsInTime old new = (recovery : ℕ) → recovery_under (setting_in old) (state_of old).mark ≤ recovery → AllHealSoFar recovery (setting_in old) old.journal → AllHeal recovery (setting_in old) new.journal
+
+-- ---- words
+-- in every state each rank holds at most the words that it may
+abbrev pub KeepsHolding : WorldView → WorldView → Type 0
+KeepsHolding old new = AlwaysHold (setting_in old) old.journal → AlwaysHold (setting_in old) new.journal
+
+-- the same, where what the last commit left is measured
+abbrev pub HoldsWords : WorldView → WorldView → Type 0
+HoldsWords old new = IsMeasured (setting_in old) (rest_of old) → KeepsHolding old new
+
+-- the same from the rounds of a recovery, which begin where no rank has more than at the last commit, but for a strip in its work slot
+abbrev pub HoldsMending : WorldView → WorldView → Type 0
+HoldsMending old new = IsRoomy (setting_in old) (rest_of old) (state_of old) → HoldsWords old new
+
+-- the rounds of a recovery leave it so
+abbrev pub KeepsRoomy : WorldView → WorldView → Type 0
+KeepsRoomy old new = IsRoomy (setting_in old) (rest_of old) (state_of old) → IsRoomy (setting_in old) (rest_of old) (state_of new)

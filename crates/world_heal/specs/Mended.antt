@@ -12,7 +12,8 @@ use Rattle.recovery_counts.specs.Counted.{job_at}
 use Rattle.run_laws.specs.Due.{numbered}
 use Rattle.run_laws.specs.Cuts.{IsWithin}
 use Rattle.block_world.specs.World.{WorldView, setting_in, state_of}
-use Rattle.world_heal.specs.Ways.{IsUnderWay, rest_of}
+use Rattle.world_heal.specs.Ways.{IsUnderWay, IsHit, rest_of}
+use Rattle.world_heal.specs.Costs.{KeepsRoomy, HoldsMending}
 
 -- what a recovery asks of the setting of a run, and an accepted script gives: each matrix lies on the grid of its number, which is one of the run; and what is
 -- factored is a matrix
@@ -82,3 +83,10 @@ pub record HasMended (most : ℕ) (Healed : Setting → State → State → Type
   pub mending : IsMending new
   pub keeps : KeepsHealed (setting_in old) (rest_of old) (state_of old) (state_of new)
   pub healed : Healed (setting_in old) (rest_of old) (state_of new)
+  pub roomy : KeepsRoomy old new
+  pub holds : HoldsMending old new
+
+-- rounds of at most so many records were carried out, and a loss is due
+pub record IsHitMending (most : ℕ) (old new : WorldView) : Type 0 where
+  pub hit : IsHit most old new
+  pub holds : HoldsMending old new

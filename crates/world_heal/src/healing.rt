@@ -7,7 +7,7 @@ ghost use Rattle.run_laws.specs.Cuts.{MayGoOn};
 ghost use Rattle.block_world.specs.World.{setting_in, state_of};
 ghost use Rattle.world_heal.specs.Ways.{IfDone};
 ghost use Rattle.world_heal.specs.Outcomes.{IfDrove, IsHealed, IsCutAt, EndsOrGoesOn};
-ghost use Rattle.world_heal.specs.Costs.{Heals, KeepsGoing, KeepsShort, HealsInTime};
+ghost use Rattle.world_heal.specs.Costs.{Heals, KeepsGoing, KeepsShort, HealsInTime, HoldsWords};
 ghost use Rattle.world_heal.specs.Mended.{IsMendable, IsTable};
 ghost use Rattle.world_heal.specs.Attempts.{attempt_most, HasRecovered, IsStoppedWithin};
 
@@ -120,6 +120,7 @@ pub fn heal<K: Field>(
     ensures in_time { OnOk result (HealsInTime world.old world.new) }
     ensures goes { OnOk result (KeepsGoing world.old world.new) }
     ensures short { OnOk result ((phase : ℕ) → KeepsShort phase world.old world.new) }
+    ensures holds { OnOk result (HoldsWords world.old world.new) }
 {
     loop {
         if let Some(drove) = ending(world, grids, table) {

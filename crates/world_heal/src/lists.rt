@@ -10,8 +10,8 @@ ghost use Rattle.block_world.specs.World.{setting_in, state_of};
 ghost use Rattle.recovery_code.specs.Copies.{grid_copies};
 ghost use Rattle.recovery_rounds.specs.Mending.{copy_events};
 ghost use Rattle.recovery_rounds.specs.Rows.{IsListHealed};
-ghost use Rattle.world_heal.specs.Ways.{IfDone, IsHit, rest_of};
-ghost use Rattle.world_heal.specs.Mended.{IsTable, IsMending, HasMended};
+ghost use Rattle.world_heal.specs.Ways.{IfDone, rest_of};
+ghost use Rattle.world_heal.specs.Mended.{IsTable, IsMending, HasMended, IsHitMending};
 
 use blacs_grid::Grid;
 use block_world::{Did, Order, Ran, RankMem, Round, Slot, SlotKind, World};
@@ -53,7 +53,7 @@ pub fn mend_list<K: Field>(
     requires live { effect.is_live_list (setting_in world.old) (rest_of world.old).mark asked.now.line ≡ true }
     requires factors { machine.factored (setting_in world.old) asked.now.line ≡ asked.now.factors }
     ensures { IfOk result (IfDone (HasMended (list_most (machine.layout (setting_in world.old) asked.now.factors)) (λ (s : machine.Setting) (last now : State). IsListHealed s last now asked.now.line) world.old world.new)
-        (IsHit (list_most (machine.layout (setting_in world.old) asked.now.factors)) world.old world.new)) }
+        (IsHitMending (list_most (machine.layout (setting_in world.old) asked.now.factors)) world.old world.new)) }
 {
     let grid = layout_at(table, asked.factors).grid;
     let list = Slot {

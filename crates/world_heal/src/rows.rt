@@ -10,8 +10,8 @@ ghost use Rattle.block_world.specs.World.{setting_in, state_of};
 ghost use Rattle.recovery_code.specs.Spots.{spot_seen, spot_under};
 ghost use Rattle.recovery_counts.specs.Counted.{round_most};
 ghost use Rattle.recovery_rounds.specs.Rows.{IsRowHealed};
-ghost use Rattle.world_heal.specs.Ways.{IfDone, IsHit, rest_of};
-ghost use Rattle.world_heal.specs.Mended.{some_in, IsTable, IsMending, HasMended, AreGroupsHealed, IsMatrixHealed};
+ghost use Rattle.world_heal.specs.Ways.{IfDone, rest_of};
+ghost use Rattle.world_heal.specs.Mended.{some_in, IsTable, IsMending, HasMended, IsHitMending, AreGroupsHealed, IsMatrixHealed};
 
 use array_desc::groups;
 use block_world::{Did, Order, Ran, Round, World};
@@ -49,7 +49,7 @@ fn mend_group<K: Field>(
     requires group_in { place.group < machine.group_count (seen place.layout) }
     requires lost { lost.now ≡ legal.lost_columns (state_of world.old) place.layout.grid place.row }
     ensures { IfOk result (IfDone (HasMended (round_most (seen place.layout)) (λ (s : machine.Setting) (last now : State). IsRowHealed s last now place.line place.row place.group) world.old world.new)
-        (IsHit (round_most (seen place.layout)) world.old world.new)) }
+        (IsHitMending (round_most (seen place.layout)) world.old world.new)) }
 {
     let _running = world.journal();
     let mut round = Round::new(alloc);
@@ -79,7 +79,7 @@ fn mend_groups<K: Field>(
     requires row_in { row < layout.grid.p }
     requires lost { lost.now ≡ legal.lost_columns (state_of world.old) layout.grid row }
     ensures { IfOk result (IfDone (HasMended (machine.group_count (seen layout) * round_most (seen layout)) (AreGroupsHealed line row (machine.group_count (seen layout))) world.old world.new)
-        (IsHit (machine.group_count (seen layout) * round_most (seen layout)) world.old world.new)) }
+        (IsHitMending (machine.group_count (seen layout) * round_most (seen layout)) world.old world.new)) }
 {
     for group in 0..groups(layout.desc.n, layout.desc.nb, layout.grid.q) {
         let place = place_of(table, world.mark(), layout, line, row, group);
@@ -105,7 +105,7 @@ fn mend_process_row<K: Field>(
     requires live { effect.is_live_matrix (setting_in world.old) (rest_of world.old).mark line ≡ true }
     requires row_in { row < (machine.layout (setting_in world.old) line).grid.p }
     ensures { IfOk result (IfDone (HasMended (machine.group_count (machine.layout (setting_in world.old) line) * round_most (machine.layout (setting_in world.old) line)) (AreGroupsHealed line row (machine.group_count (machine.layout (setting_in world.old) line))) world.old world.new)
-        (IsHit (machine.group_count (machine.layout (setting_in world.old) line) * round_most (machine.layout (setting_in world.old) line)) world.old world.new)) }
+        (IsHitMending (machine.group_count (machine.layout (setting_in world.old) line) * round_most (machine.layout (setting_in world.old) line)) world.old world.new)) }
 {
     let layout = layout_at(table, line);
     let lost = lost_columns(world, alloc, &layout.grid, row)?;
@@ -128,7 +128,7 @@ pub fn mend_matrix<K: Field>(
     requires table { IsTable (setting_in world.old) table.now }
     requires live { effect.is_live_matrix (setting_in world.old) (rest_of world.old).mark line ≡ true }
     ensures { IfOk result (IfDone (HasMended (matrix_most (machine.layout (setting_in world.old) line)) (IsMatrixHealed line) world.old world.new)
-        (IsHit (matrix_most (machine.layout (setting_in world.old) line)) world.old world.new)) }
+        (IsHitMending (matrix_most (machine.layout (setting_in world.old) line)) world.old world.new)) }
 {
     for row in 0..layout_at(table, line).grid.p {
         match mend_process_row(alloc, world, order, table, line, row)? {

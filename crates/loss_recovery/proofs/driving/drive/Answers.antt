@@ -2,8 +2,9 @@ use Rattle.std.proofs.Common.{◌∙◌, sym, ap, subst}
 use Rattle.block_world.specs.World.{setting_in, state_of}
 use Rattle.world_heal.specs.Ways.{IfDone, IsHit}
 use Rattle.world_heal.specs.Outcomes.{IfDrove, IsCutAt, IsHealed}
-use Rattle.loss_recovery.specs.Driven.{IsStraight}
-use Rattle.loss_recovery.proofs.Beginning.{mendable_hit, may-here, site_hit, site_cut, site_driven, driven-going, driven-short, driven-in_time, again-in_time, again-going, again-short, driven-all, begun-again, cut-all, fewer-again, cut_costs, if_cut, cut_of}
+use Rattle.world_heal.specs.Costs.{HoldsWords}
+use Rattle.loss_recovery.specs.Driven.{IsStraight, HoldsDriven}
+use Rattle.loss_recovery.proofs.Beginning.{mendable_hit, may-here, site_hit, site_cut, site_driven, driven-going, driven-short, driven-in_time, again-in_time, again-going, again-short, driven-all, begun-again, cut-all, fewer-again, cut_costs, if_cut, cut_of, cut_so, driven_holds, again_holds}
 use Rattle.loss_recovery.proofs.driving.drive.Goals as goal
 
 pub attempt-requires-clause-may : goal.attempt-requires-clause-may
@@ -46,9 +47,10 @@ loop-site-preserved g c =
     let x = ph.task c.args.phase.now in
     let inv = c.loop-site.invariant in
     let hit = subst (λ d. IfDone (IsStraight (ph.plan (ph.task c.loop-site.phase)) (ph.progress c.attempt.new.phase) c.loop-site.world c.attempt.new.world) (IsHit (ph.plan (ph.task c.loop-site.phase)).most_records c.loop-site.world c.attempt.new.world) d) c.in-Hit.is c.in_ok-attempt.ensures.driven in
-    let healed = subst (λ d. IfDrove (IsHealed c.attempt.new.world c.recover.new.world) (IsCutAt c.attempt.new.world c.recover.new.world) d) c.in-Done-2.is c.in_ok-cut.ensures.outcome in (
+    let healed = subst (λ d. IfDrove (IsHealed c.attempt.new.world c.recover.new.world) (IsCutAt c.attempt.new.world c.recover.new.world) d) c.in-Done-2.is c.in_ok-cut.ensures.outcome in
+    let held = subst (λ d. IfDone (HoldsDriven c.loop-site.world c.attempt.new.world) (HoldsWords c.loop-site.world c.attempt.new.world) d) c.in-Hit.is c.in_ok-attempt.ensures.holds in (
       c.in_ok-attempt.ensures.same_task ∙ inv.0,
-      begun-again (ph.plan x) c.args.world.now c.loop-site.world c.attempt.new.world c.recover.new.world c.requires.rest inv.1 (subst (λ t. IsHit (ph.plan t).most_records c.loop-site.world c.attempt.new.world) inv.0 hit) healed c.in_ok-cut.ensures.fewer c.in_ok-cut.ensures.costs c.in_ok-cut.ensures.goes c.in_ok-cut.ensures.short c.in_ok-cut.ensures.in_time,
+      begun-again (ph.plan x) c.args.world.now c.loop-site.world c.attempt.new.world c.recover.new.world c.requires.rest inv.1 (subst (λ t. IsHit (ph.plan t).most_records c.loop-site.world c.attempt.new.world) inv.0 hit) healed c.in_ok-cut.ensures.fewer c.in_ok-cut.ensures.costs c.in_ok-cut.ensures.goes c.in_ok-cut.ensures.short c.in_ok-cut.ensures.in_time held c.in_ok-cut.ensures.holds,
       inv.2,
     )
 
@@ -62,6 +64,7 @@ returns-in_default g c =
     let inv = c.loop-site.invariant in
     let hit = subst (λ d. IfDone (IsStraight (ph.plan (ph.task c.loop-site.phase)) (ph.progress c.attempt.new.phase) c.loop-site.world mid) (IsHit (ph.plan (ph.task c.loop-site.phase)).most_records c.loop-site.world mid) d) c.in-Hit.is c.in_ok-attempt.ensures.driven in
     let all = λ (y : _) (h : IsCutAt mid new y). cut-all (ph.plan x) old c.loop-site.world mid new y c.requires.rest inv.1 (subst (λ t. IsHit (ph.plan t).most_records c.loop-site.world mid) inv.0 hit) h c.in_ok-cut.ensures.fewer c.in_ok-cut.ensures.costs in
+    let held = subst (λ d. IfDone (HoldsDriven c.loop-site.world mid) (HoldsWords c.loop-site.world mid) d) c.in-Hit.is c.in_ok-attempt.ensures.holds in
     let mine = cut_of (IsHealed mid new) (IsCutAt mid new) c.in_ok-cut.cut c.in_default.not-Done c.in_ok-cut.ensures.outcome in
     record {
       same_task = c.in_ok-attempt.ensures.same_task ∙ inv.0;
@@ -70,6 +73,8 @@ returns-in_default g c =
       goes = again-going (ph.plan x) old c.loop-site.world mid new inv.1 (subst (λ t. IsHit (ph.plan t).most_records c.loop-site.world mid) inv.0 hit) c.in_ok-cut.ensures.goes;
       short = again-short (ph.plan x) old c.loop-site.world mid new inv.1 (subst (λ t. IsHit (ph.plan t).most_records c.loop-site.world mid) inv.0 hit) c.in_ok-cut.ensures.short;
       site_is = inv.2 ∙ (c.requires.site_is ∙ sym (site_cut old new c.in_ok-cut.cut (all c.in_ok-cut.cut mine).0));
+      holds = cut_so (HoldsDriven old new) (λ cut. HoldsWords old new) c.in_ok-cut.cut c.in_default.not-Done
+          (again_holds (ph.plan x) old c.loop-site.world mid new c.requires.rest inv.1 (subst (λ t. IsHit (ph.plan t).most_records c.loop-site.world mid) inv.0 hit) held c.in_ok-cut.ensures.holds);
       costs = cut_costs (ph.plan x) old new c.in_ok-cut.cut (all c.in_ok-cut.cut mine).1 c.in_default.not-Done;
     }
 
@@ -129,3 +134,11 @@ returns-in-Done-clause-site_is g c =
     (subst (λ t. IsStraight (ph.plan t) (ph.progress c.attempt.new.phase) c.loop-site.world new) inv.0 here)).0 in
     let mark = c.mark.ensures ∙ ap (λ t. (ph.plan t).mark) (c.in_ok-attempt.ensures.same_task ∙ inv.0) in
     c.set.ensures ∙ ((λ i. record ((inv.2 ∙ c.requires.site_is) i) { mark = mark i }) ∙ site_driven (ph.plan x) (ph.progress c.attempt.new.phase) c.args.world.now new all)
+
+pub returns-in-Done-clause-holds : goal.returns-in-Done-clause-holds
+returns-in-Done-clause-holds g c =
+    let ph = g.H.Phase in
+    let x = ph.task c.args.phase.now in
+    let inv = c.loop-site.invariant in
+    let here = subst (λ d. IfDone (HoldsDriven c.loop-site.world c.attempt.new.world) (HoldsWords c.loop-site.world c.attempt.new.world) d) c.in-Done.is c.in_ok-attempt.ensures.holds in
+    driven_holds (ph.plan x) c.args.world.now c.loop-site.world c.attempt.new.world c.requires.rest inv.1 here

@@ -2,10 +2,10 @@ use Rattle.std.proofs.Common.{◌∙◌, sym, ◌<◌, ℕ, arith}
 use Rattle.run_laws.specs.Due.{ahead}
 use Rattle.block_world.specs.World.{setting_in}
 use Rattle.world_heal.specs.Outcomes.{IfDrove, IsCutAt, IsHealed}
-use Rattle.world_heal.specs.Costs.{Heals, KeepsGoing, KeepsShort, HealsInTime}
+use Rattle.world_heal.specs.Costs.{Heals, KeepsGoing, KeepsShort, HealsInTime, HoldsWords}
 use Rattle.world_heal.proofs.Outcomes.{if_ok, on_ok, both_ok, if_drove, later_of}
 use Rattle.loss_recovery.specs.Driven.{Recovers, RecoversInTime}
-use Rattle.loss_recovery.proofs.Recovering.{now_fell, some_fell, mendable_fell, site_fell, site_table, site_grids, healed_from, cut_from, fewer_later, recovers_from, going_from, short_from, in_time_from}
+use Rattle.loss_recovery.proofs.Recovering.{now_fell, some_fell, mendable_fell, site_fell, site_table, site_grids, healed_from, cut_from, fewer_later, recovers_from, going_from, short_from, in_time_from, holds_from}
 use Rattle.loss_recovery.proofs.driving.recover.Goals as goal
 
 pub heal-requires : goal.heal-requires
@@ -67,3 +67,10 @@ returns-clause-in_time g c =
     let f = c.fall.new.self in
     let new = c.heal.new.world in
     both_ok (HealsInTime f new) (RecoversInTime w new) (in_time_from w f c.fall.ensures c.requires.due new) c.heal.result c.heal.ensures.in_time
+
+pub returns-clause-holds : goal.returns-clause-holds
+returns-clause-holds g c =
+    let w = c.args.world.now in
+    let f = c.fall.new.self in
+    let new = c.heal.new.world in
+    both_ok (HoldsWords f new) (HoldsWords w new) (holds_from w f c.fall.ensures c.requires.due new) c.heal.result c.heal.ensures.holds

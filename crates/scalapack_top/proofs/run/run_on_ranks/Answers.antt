@@ -1,6 +1,6 @@
 use Rattle.std.proofs.Common.{Result, Ok, Err}
 use Rattle.std.specs.Prelude.{IfOk}
-use Rattle.scalapack_top.proofs.Runnable.{can_run, whole_run}
+use Rattle.scalapack_top.proofs.Runnable.{can_run, ends-by}
 use Rattle.scalapack_top.proofs.run.run_on_ranks.Goals as goal
 
 pub run-requires : goal.run-requires
@@ -11,5 +11,4 @@ both_ok (Ok x) P Q R p q f = f x p q
 both_ok (Err e) P Q R p q f = tt
 
 pub returns : goal.returns
-returns c = both_ok c.run.result _ _ _ c.run.ensures.out c.run.ensures.journal
-    (λ x out journal. whole_run c.args.script.now c.args.files.now c.requires x.out.items x.journal.items out journal)
+returns c = both_ok c.run.result _ _ _ c.run.ensures.run c.run.ensures.complete (λ x run complete. ends-by c.args.script.now c.args.files.now x.ending x.out.items x.journal.items run complete)

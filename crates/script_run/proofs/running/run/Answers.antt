@@ -1,21 +1,23 @@
-use Rattle.std.proofs.Common.{ap, sym}
-use Rattle.block_world.specs.World.{WorldView}
+use Rattle.std.proofs.Common.{ap, sym, ◌∙◌}
+use Rattle.run_data.specs.Script.{commands_of}
+use Rattle.rank_machine.specs.JournalText.{journal_text}
+use Rattle.script_bounds.specs.Bounds.{bound}
+use Rattle.whole_run.specs.Inside.{ending_at}
+use Rattle.whole_run.proofs.Completing.{completes}
+use Rattle.script_run.proofs.LineByLine.{first-line, run-of}
 use Rattle.script_run.proofs.running.run.Goals as goal
 
-pub open-requires-clause-sound : goal.open-requires-clause-sound
-open-requires-clause-sound c = c.requires.sound
+pub run_lines-requires-clause-before : goal.run_lines-requires-clause-before
+run_lines-requires-clause-before c =
+    first-line c.args.script.now c.args.files.now (bound (commands_of c.args.script.now)) c.in_ok-world.world c.new-out.result.items c.in_ok-world.ensures c.new-out.ensures.items
 
-pub open-requires-clause-losses : goal.open-requires-clause-losses
-open-requires-clause-losses c = sym c.requires.plain.no_losses
+pub returns-clause-run : goal.returns-clause-run
+returns-clause-run c =
+    run-of c.args.script.now c.args.files.now c.run_lines.new.world c.run_lines.new.out.items c.in_ok-journal.journal.items c.in_ok-ending.ending c.in_ok-ending.ensures.ran
+    (record { legal = c.journal.ensures.legal; in_place = c.journal.ensures.in_place }) (c.in_ok-journal.ensures ∙ ap journal_text c.journal.ensures.value)
 
-pub run_lines-requires-clause-runnable : goal.run_lines-requires-clause-runnable
-run_lines-requires-clause-runnable c = c.requires
-
-pub run_lines-requires-clause-same : goal.run_lines-requires-clause-same
-run_lines-requires-clause-same c = let w = c.in_ok-world.ensures in record { script_is = ap (λ (v : WorldView). v.script) w; files_are = ap (λ (v : WorldView). v.files) w }
-
-pub run_lines-requires-clause-opened : goal.run_lines-requires-clause-opened
-run_lines-requires-clause-opened c = ap (λ (v : WorldView). v.journal) c.in_ok-world.ensures
-
-pub run_lines-requires-clause-empty : goal.run_lines-requires-clause-empty
-run_lines-requires-clause-empty c = c.new-out.ensures.items
+pub returns-clause-complete : goal.returns-clause-complete
+returns-clause-complete c =
+    completes c.args.script.now c.args.files.now (ending_at c.in_ok-ending.ending) c.run_lines.new.out.items c.in_ok-journal.journal.items
+    (run-of c.args.script.now c.args.files.now c.run_lines.new.world c.run_lines.new.out.items c.in_ok-journal.journal.items c.in_ok-ending.ending c.in_ok-ending.ensures.ran
+    (record { legal = c.journal.ensures.legal; in_place = c.journal.ensures.in_place }) (c.in_ok-journal.ensures ∙ ap journal_text c.journal.ensures.value))

@@ -1,7 +1,6 @@
-use Rattle.std.proofs.Common.{suc, drop}
-use Rattle.run_data.specs.Script.{commands_from}
-use Rattle.script_run.proofs.Underway.{Underway}
+use Rattle.std.proofs.Common.{◌≡◌, ◌≤◌, length}
+use Rattle.script_run.proofs.LineByLine.{IsUpTo}
 use Rattle.script_run.proofs.running.run_lines.Given as goal
 
 abbrev pub invariant-loop-i : goal.invariant-loop-i
-invariant-loop-i l = Underway l.script l.files (commands_from (suc l.i) (drop l.i l.lines)) l.world l.out.items
+invariant-loop-i l = IsUpTo l.script l.files l.i l.world l.site l.out.items

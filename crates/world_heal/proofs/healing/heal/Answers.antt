@@ -6,7 +6,7 @@ use Rattle.world_heal.specs.Outcomes.{IsHealed, IsCutAt, EndsOrGoesOn}
 use Rattle.world_heal.specs.Mended.{IsMendable, IsTable}
 use Rattle.world_heal.specs.Attempts.{attempt_most, HasRecovered, IsStoppedWithin}
 use Rattle.world_heal.proofs.Later.{setting-later}
-use Rattle.world_heal.proofs.Endings.{if_ending, lost_here, cut_here, cut-costs, cut-in_time, begins-then, then-fewer, healed_here, here-costs, here-goes, here-short, here-in_time}
+use Rattle.world_heal.proofs.Endings.{if_ending, lost_here, cut_here, cut-costs, cut-in_time, begins-then, then-fewer, healed_here, here-costs, here-goes, here-short, here-in_time, here-holds}
 use Rattle.world_heal.proofs.healing.heal.Goals as goal
 
 pub returns-in-Some : goal.returns-in-Some
@@ -22,6 +22,7 @@ returns-in-Some g c =
       in_time = cut-in_time old now begins drove ends;
       goes = begins.begins.goes;
       short = begins.begins.short;
+      holds = begins.holds;
     }
 
 pub heal_once-requires-clause-mendable : goal.heal_once-requires-clause-mendable
@@ -52,6 +53,7 @@ returns-in-Done g c =
       in_time = here-in_time old now begins new recovered;
       goes = here-goes old now begins new recovered;
       short = here-short old now begins new recovered;
+      holds = here-holds old now begins new recovered;
     }
 
 pub loop-drove-smaller : goal.loop-drove-smaller

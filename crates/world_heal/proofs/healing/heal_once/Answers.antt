@@ -5,11 +5,11 @@ use Rattle.recovery_rounds.specs.Rows.{IsAllHealed}
 use Rattle.recovery_counts.specs.Counted.{grids_so_far}
 use Rattle.block_world.specs.World.{setting_in, state_of, is_hurt}
 use Rattle.block_world.specs.Did.{IsDid}
-use Rattle.world_heal.specs.Ways.{IfDone, IsHit, rest_of}
-use Rattle.world_heal.specs.Mended.{HasMended}
+use Rattle.world_heal.specs.Ways.{IfDone, rest_of}
+use Rattle.world_heal.specs.Mended.{HasMended, IsHitMending}
 use Rattle.world_heal.specs.Attempts.{attempt_most, HasRecovered, HasSpawned, IsStoppedWithin}
 use Rattle.world_heal.proofs.Outcomes.{if_ok, if_did}
-use Rattle.world_heal.proofs.Attempting.{restore-tried, restore-goes, stopped-restoring, ranks-tried, spawned-tried, stopped-spawning, spawned-mending, stopped-mending, all-mended, recovery-commits, stopped-committing, recovered}
+use Rattle.world_heal.proofs.Attempting.{restore-tried, restore-goes, stopped-restoring, ranks-tried, spawned-tried, stopped-spawning, spawned-mending, spawned-roomy, stopped-mending, all-mended, recovery-commits, stopped-committing, recovered}
 use Rattle.world_heal.proofs.healing.heal_once.Goals as goal
 
 pub spawn_all-requires-clause-ranks : goal.spawn_all-requires-clause-ranks
@@ -41,9 +41,10 @@ commit-requires g c =
     let made = subst (λ d. IsDid d old mid r.Restore) c.in-Done.is c.in_ok-restore.ensures.did in
     let spawned = subst (λ d. IfDone (HasSpawned mid new) (IsStoppedWithin (ranks (setting_in mid)) mid new) d) c.in-Done-2.is c.in_ok-spawn_all.ensures in
     let mending = spawned-mending old mid new c.requires.go made spawned c.requires.mendable c.requires.lost c.journal-running.ensures.sound.some_messages c.journal-running.ensures.legal in
+    let roomy = spawned-roomy old mid new c.requires.go made spawned c.requires.mendable c.journal-running.ensures.legal in
     let most = grids_so_far (setting_in new) (rest_of new).mark n in
-    let mended = subst (λ d. IfDone (HasMended most IsAllHealed new now) (IsHit most new now) d) c.in-Done-3.is c.in_ok-mend_all.ensures in
-    record { legal = recovery-commits old now c.mark-mark.result (all-mended n old new now (spawned-tried old mid new (restore-tried old mid c.requires.go made) spawned) mending mended) c.mark-mark.ensures }
+    let mended = subst (λ d. IfDone (HasMended most IsAllHealed new now) (IsHitMending most new now) d) c.in-Done-3.is c.in_ok-mend_all.ensures in
+    record { legal = recovery-commits old now c.mark-mark.result (all-mended n old new now (spawned-tried old mid new (restore-tried old mid c.requires.go made) spawned) mending roomy mended) c.mark-mark.ensures }
 
 pub returns-in-Hit : goal.returns-in-Hit
 returns-in-Hit g c =
@@ -69,9 +70,10 @@ returns-in-Hit-3 g c =
     let made = subst (λ d. IsDid d old mid r.Restore) c.in-Done.is c.in_ok-restore.ensures.did in
     let spawned = subst (λ d. IfDone (HasSpawned mid new) (IsStoppedWithin (ranks (setting_in mid)) mid new) d) c.in-Done-2.is c.in_ok-spawn_all.ensures in
     let mending = spawned-mending old mid new c.requires.go made spawned c.requires.mendable c.requires.lost c.journal-running.ensures.sound.some_messages c.journal-running.ensures.legal in
+    let roomy = spawned-roomy old mid new c.requires.go made spawned c.requires.mendable c.journal-running.ensures.legal in
     let most = grids_so_far (setting_in new) (rest_of new).mark n in
-    let hit = subst (λ d. IfDone (HasMended most IsAllHealed new now) (IsHit most new now) d) c.in-Hit-3.is c.in_ok-mend_all.ensures in
-    stopped-mending n old new now (spawned-tried old mid new (restore-tried old mid c.requires.go made) spawned) mending hit
+    let hit = subst (λ d. IfDone (HasMended most IsAllHealed new now) (IsHitMending most new now) d) c.in-Hit-3.is c.in_ok-mend_all.ensures in
+    stopped-mending n old new now (spawned-tried old mid new (restore-tried old mid c.requires.go made) spawned) mending roomy hit
 
 pub returns : goal.returns
 returns g c =
@@ -84,9 +86,10 @@ returns g c =
     let made = subst (λ d. IsDid d old mid r.Restore) c.in-Done.is c.in_ok-restore.ensures.did in
     let spawned = subst (λ d. IfDone (HasSpawned mid new) (IsStoppedWithin (ranks (setting_in mid)) mid new) d) c.in-Done-2.is c.in_ok-spawn_all.ensures in
     let mending = spawned-mending old mid new c.requires.go made spawned c.requires.mendable c.requires.lost c.journal-running.ensures.sound.some_messages c.journal-running.ensures.legal in
+    let roomy = spawned-roomy old mid new c.requires.go made spawned c.requires.mendable c.journal-running.ensures.legal in
     let most = grids_so_far (setting_in new) (rest_of new).mark n in
-    let mended = subst (λ d. IfDone (HasMended most IsAllHealed new now) (IsHit most new now) d) c.in-Done-3.is c.in_ok-mend_all.ensures in
-    let all = all-mended n old new now (spawned-tried old mid new (restore-tried old mid c.requires.go made) spawned) mending mended in
+    let mended = subst (λ d. IfDone (HasMended most IsAllHealed new now) (IsHitMending most new now) d) c.in-Done-3.is c.in_ok-mend_all.ensures in
+    let all = all-mended n old new now (spawned-tried old mid new (restore-tried old mid c.requires.go made) spawned) mending roomy mended in
     let commit = r.Commit c.mark-mark.result (is_hurt now) in
     let stopped = IsStoppedWithin (attempt_most (setting_in old) (state_of old).mark) old fin in
     if_ok (λ d. IsDid d now fin commit) (IfDone (HasRecovered old fin) stopped)

@@ -3,8 +3,8 @@ use Rattle.std.proofs.Common.{◌∙◌, ◌<◌, ◌*◌, sym, ap, subst}
 use Rattle.rank_machine.specs.Setting.{Layout, group_count}
 use Rattle.script_lines.specs.Layouts.{seen}
 use Rattle.recovery_counts.specs.Counted.{round_most}
-use Rattle.world_heal.specs.Ways.{IfDone, IsHit}
-use Rattle.world_heal.specs.Mended.{some_in, HasMended, AreGroupsHealed}
+use Rattle.world_heal.specs.Ways.{IfDone}
+use Rattle.world_heal.specs.Mended.{some_in, HasMended, IsHitMending, AreGroupsHealed}
 use Rattle.world_heal.proofs.RowSteps.{laid-on, row-passed}
 use Rattle.world_heal.proofs.rows.mend_process_row.Goals as goal
 
@@ -31,7 +31,7 @@ returns-then-some_lost g c =
     let laid = laid-on c.args.world.now c.args.table.now c.args.line (seen c.layout_at-layout.result) c.requires.table c.layout_at-layout.ensures.value in
     subst
     (λ (d : Layout).
-    IfOk c.mend_groups.result (IfDone (HasMended (group_count d * round_most d) (AreGroupsHealed c.args.line c.args.row (group_count d)) c.args.world.now c.mend_groups.new.world) (IsHit (group_count d * round_most d) c.args.world.now c.mend_groups.new.world)))
+    IfOk c.mend_groups.result (IfDone (HasMended (group_count d * round_most d) (AreGroupsHealed c.args.line c.args.row (group_count d)) c.args.world.now c.mend_groups.new.world) (IsHitMending (group_count d * round_most d) c.args.world.now c.mend_groups.new.world)))
     laid c.mend_groups.ensures
 
 pub returns : goal.returns
