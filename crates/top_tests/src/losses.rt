@@ -220,6 +220,10 @@ fn survives_a_loss_at_every_step(rt: HostRuntime) {
     }
 }
 
+// The same with two code columns on each grid.
+const TWO_CODED_GRIDS: &[u8] =
+    b"grid g 1 2 2\ngrid h 2 1 2\nmatrix A g 3 4 2 1 0 1 a.txt\nprint A\nmatrix B h 3 4 1 2 1 0 a.txt\nprint B\ndrop A\nmatrix A h 3 4 2 2 0 0 a.txt\nprint A\n";
+
 const FOUR_CODE_COLUMNS: &[u8] = b"grid g 1 2 4\nmatrix A g 3 4 2 1 0 1 a.txt\nprint A\n";
 
 // Stops where a run with losses on one grid prints something else than the serial run of its script.
@@ -257,6 +261,21 @@ fn survives_each_pair(rt: HostRuntime) {
                     &serial,
                 );
             }
+        }
+    }
+}
+
+// Each of the ten ranks is lost before each record, together with the next one.
+#[test]
+fn survives_two_losses_at_every_step(rt: HostRuntime) {
+    let alloc = rt.alloc();
+    let serial = run_script(&rt, alloc, SERIALLY, TWO_CODED_GRIDS, b"", THREE_ROWS);
+    for at in 0..260u32 {
+        for rank in 0..10u32 {
+            let one = loss_line(&rt, alloc, at, rank);
+            let next = loss_line(&rt, alloc, at, (rank + 1) % 10);
+            let both = joined(&rt, alloc, &[&one, &next]);
+            check_mended(&rt, alloc, at as usize, TWO_CODED_GRIDS, &both, &serial);
         }
     }
 }
