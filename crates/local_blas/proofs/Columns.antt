@@ -1,5 +1,5 @@
 -- A part that is written column after column, each column at once.
-use Rattle.std.proofs.Common.{◌≡◌, ◌≢◌, ℕ, Bool, ◌+◌, ◌<◌, ◌≤◌, if◌then◌else◌, sym, subst, ◌∙◌, ap, arith}
+use Rattle.std.proofs.Common.{◌≡◌, ℕ, Bool, ◌+◌, ◌<◌, ◌≤◌, if◌then◌else◌, sym, subst, ◌∙◌, ap, arith}
 use Rattle.std.proofs.lemmas.Bool.Decides.{nat_tests}
 use Rattle.run_data.specs.declared.matrix.Part.{Part}
 use Rattle.run_data.specs.Matrix.{Matrix, cols, entry, IsShaped, AreWords, tabulate}
@@ -78,13 +78,3 @@ filled_within a b at done f part e h = record {
   columns_ordered = h.columns_ordered;
   columns_end = subst (λ n. part.c1 ≤ n) (sym (ap cols e ∙ cols-with_done a at done f)) h.columns_end;
 }
-
-beside_column : (at : Part) (done : ℕ → ℕ → Bool) (f h : ℕ → ℕ → ℕ) (r c : ℕ) → at.c1 ≡ at.c0 + 1 → c ≢ at.c0 → filled at done f h r c ≡ h r c
-unfolding filled
-beside_column at done f h r c one other = grind (arith, nat_tests)
-
--- while a part of one column is filled, the other columns are as they were
-pub fill_reads_beside : (a b : Matrix) (at : Part) (f : ℕ → ℕ → ℕ) (i j r c y : ℕ) → b ≡ with_filled a at f i j → y ≡ entry b r c → at.c1 ≡ at.c0 + 1 → c ≢ at.c0 → r < a.rows → c < cols a → y ≡ entry a r c
-fill_reads_beside a b at f i j r c y e is one other hr hc =
-    is ∙ ap (λ m. entry m r c) e ∙ entry-tabulate a.rows (cols a) (filled at (is_passed_down i j) f (entry a)) r c hr hc
-    ∙ beside_column at (is_passed_down i j) f (entry a) r c one other

@@ -1,3 +1,4 @@
+pub mod ColumnWords
 pub mod Steps
 pub mod Products
 pub mod Solutions

@@ -17,10 +17,6 @@ sum_goes_on p s k x y new f e e_f e_new =
     e_new ∙ ap (λ n. (n + x * y) % p) e ∙ ap (λ n. (sum_to k f % p + n) % p) e_f ∙ (let r : (sum_to k f % p + f k) % p ≡ (sum_to k f + f k) % p = simp residues in r)
     ∙ ap (λ n. n % p) (sym (sum_to-more k f))
 
--- a word that gains a times a sum
-pub gains : (p x a s y t new : ℕ) → y ≡ s % p → t ≡ (a * y) % p → new ≡ (x + t) % p → new ≡ (x + a * s) % p
-gains p x a s y t new e_y e_t e_new = rw (e_new, e_t, e_y) (let e : (x + (a * (s % p)) % p) % p ≡ (x + a * s) % p = simp residues in e)
-
 -- a word that loses a sum
 pub loses : (p x s y new : ℕ) → x < p → y ≡ s % p → new ≡ (x + (p - y)) % p → new ≡ (x + (p - 1) * s) % p
 loses p x s y new x_lt e_y e_new =

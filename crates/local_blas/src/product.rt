@@ -6,7 +6,8 @@ ghost use Rattle.run_data.specs.Matrix.{Matrix, cols, entry};
 ghost use Rattle.run_data.specs.Parts.{IsWithin};
 ghost use Rattle.local_blas.specs.Kernels.{AreWords, ShapesMultiply, with_product};
 
-use crate::words::{add_product, column_of};
+use crate::words::{add_product, column_of, column_words};
+use blas_lanes::add_products;
 use field_core::Field;
 use run_data::{Mat, Part};
 
@@ -43,7 +44,6 @@ pub(crate) fn inner_product<K: Field>(
 
 /// Adds `a` times the product of the part `lp` of `left` and a part of one column to a part of one
 /// column (as BLAS's xGEMV with beta 1).
-#[tactic(auto, using(run_data::proofs::Fills::fills))]
 fn mul_add_column<K: Field>(
     dst: &mut Mat,
     at: Part,
@@ -64,14 +64,13 @@ fn mul_add_column<K: Field>(
     requires right_words { AreWords K.MODULUS right.now }
     ensures { dst.new ≡ with_product K.MODULUS dst.old at a left.now lp right.now rp }
 {
-    let _shaped = dst.rows();
-    let count = lp.c1 - lp.c0;
-    for i in at.r0..at.r1 {
-        let row = lp.r0 + (i - at.r0);
-        let sum = inner_product::<K>(left, row, lp.c0, right, rp.r0, rp.c0, count);
-        let word = dst.get(i, at.c0);
-        dst.set(i, at.c0, K::add(word, K::mul(a, sum)));
-    }
+    let left_rows = left.rows() as usize;
+    let from = lp.c0 as usize * left_rows + lp.r0 as usize;
+    let factors = column_words(right, rp);
+    let start = at.c0 as usize * dst.rows() as usize;
+    let words = dst.words_mut();
+    let y = &mut words[start + at.r0 as usize..start + at.r1 as usize];
+    add_products(y, a, left.words(), from, left_rows, factors, K::MODULUS);
 }
 
 /// Adds `a` times the product of the part `lp` of `left` and the part `rp` of `right` to the part

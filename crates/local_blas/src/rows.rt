@@ -7,7 +7,8 @@ ghost use Rattle.run_data.specs.Parts.{IsWithin, whole_part, with_part};
 ghost use Rattle.local_blas.specs.Kernels.{AreWords, with_eliminated, with_rows_swapped};
 
 use crate::scaling::scale_column;
-use crate::words::{add_product, column_of};
+use crate::words::column_of;
+use blas_lanes::axpy;
 use field_core::Field;
 use run_data::{Mat, Part};
 
@@ -48,24 +49,24 @@ pub fn swap_rows(dst: &mut Mat, i: u32, j: u32)
     }
 }
 
-/// Adds `negative` times column `j` to the part `at` of another column, in the rows of that part (as
+/// Adds `negative` times column `j` to the part `at` of a later column, in the rows of that part (as
 /// BLAS's xAXPY).
-#[tactic(auto, using(run_data::proofs::Fills::fills))]
 fn eliminate_column<K: Field>(dst: &mut Mat, at: Part, j: u32, negative: u32)
     requires part { IsWithin at dst.old }
     requires column { at.c1 ≡ at.c0 + 1 }
-    requires multipliers { j < cols dst.old }
-    requires other { j ≢ at.c0 }
+    requires later { j < at.c0 }
     requires factor { negative < K.MODULUS }
     requires words { AreWords K.MODULUS dst.old }
     ensures { dst.new ≡ with_part dst.old at (λ r c. (entry dst.old r c + entry dst.old r j * negative) % K.MODULUS) }
 {
-    let _shaped = dst.rows();
-    for i in at.r0..at.r1 {
-        let word = dst.get(i, at.c0);
-        let multiplier = dst.get(i, j);
-        dst.set(i, at.c0, add_product::<K>(word, multiplier, negative));
-    }
+    let rows = dst.rows() as usize;
+    let first = j as usize * rows;
+    let (before, after) = dst
+        .words_mut()
+        .split_at_mut(at.c0 as usize * rows + at.r0 as usize);
+    let x = &before[first + at.r0 as usize..first + at.r1 as usize];
+    let y = &mut after[..(at.r1 - at.r0) as usize];
+    axpy(y, negative, x, K::MODULUS);
 }
 
 /// Eliminates column `j` in the rows of `dst` from `from` on by a pivot row, a matrix of one row

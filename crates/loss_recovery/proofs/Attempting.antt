@@ -20,7 +20,8 @@ use Rattle.run_laws.proofs.Journals.{state-rest, since-append, numbered-append}
 use Rattle.run_laws.proofs.Inner.{IsSameRun, inner-numbered, none_commits}
 use Rattle.run_laws.proofs.Going.{IsCalm, go_append, go_calm}
 use Rattle.run_laws.proofs.Shorts.{short_plain, short_phase}
-use Rattle.run_laws.specs.Cuts.{NoneGoesTooFar}
+use Rattle.run_laws.specs.Cuts.{GoesRightly}
+use Rattle.run_laws.proofs.LeadingBack.{back_append, back_plain, back_commit}
 use Rattle.run_laws.specs.Traces.{AreShort, AllHeal}
 use Rattle.run_laws.proofs.CodeLaws.{CodeLaw-commit}
 use Rattle.block_world.specs.World.{WorldView, setting_in, state_of, noted}
@@ -168,8 +169,12 @@ inner_numbered xs h = All-weaker (λ (x : Rec). is_inner x ≡ true) (λ (x : Re
 -- a phase on its way from a commit
 pub going_way : (old mid : WorldView) → IsAtRest old → IsUnderWay old mid → KeepsGoing old mid
 going_way old mid h u goes =
-    subst (λ j. NoneGoesTooFar (setting_in old) j) (sym u.journal)
-    (go_append (setting_in old) [] old.journal u.added goes (go_calm (setting_in old) old.journal u.added (calm_at old h) (inner_numbered u.added u.inner)))
+    let s : Setting = setting_in old in
+    subst (λ j. GoesRightly s j) (sym u.journal)
+    (record {
+      may = go_append s [] old.journal u.added goes.may (go_calm s old.journal u.added (calm_at old h) (inner_numbered u.added u.inner));
+      back = back_append s [] old.journal u.added goes.back (back_plain s old.journal u.added (none_commits u.added u.inner));
+    })
 
 pub short_way : (phase : ℕ) (old mid : WorldView) → IsUnderWay old mid → KeepsShort phase old mid
 short_way phase old mid u short = subst (λ j. AreShort phase j) (sym u.journal) (short_plain phase old.journal u.added (none_commits u.added u.inner) short)
@@ -188,8 +193,13 @@ going_home : (old mid fin : WorldView) (mark : Mark) → IsAtRest old → IsUnde
 going_home old mid fin mark h u e goes =
     let all = All-append (λ (x : Rec). is_numbered x ≡ true) u.added (r.Commit mark false ∷ []) (inner_numbered u.added u.inner) (All-cons (λ (x : Rec). is_numbered x ≡ true) (r.Commit mark false) [] refl (All-nil (λ (x : Rec). is_numbered x ≡ true))) in
     let journal : fin.journal ≡ old.journal ++ (u.added ++ r.Commit mark false ∷ []) = e ∙ (ap (λ xs. xs ++ r.Commit mark false ∷ []) u.journal ∙ append_assoc old.journal u.added (r.Commit mark false ∷ [])) in
-    subst (λ j. NoneGoesTooFar (setting_in old) j) (sym journal)
-    (go_append (setting_in old) [] old.journal (u.added ++ r.Commit mark false ∷ []) goes (go_calm (setting_in old) old.journal (u.added ++ r.Commit mark false ∷ []) (calm_at old h) all))
+    let s : Setting = setting_in old in
+    subst (λ j. GoesRightly s j) (sym journal)
+    (record {
+      may = go_append s [] old.journal (u.added ++ r.Commit mark false ∷ []) goes.may (go_calm s old.journal (u.added ++ r.Commit mark false ∷ []) (calm_at old h) all);
+      back = back_append s [] old.journal (u.added ++ r.Commit mark false ∷ []) goes.back
+          (back_append s old.journal u.added (r.Commit mark false ∷ []) (back_plain s old.journal u.added (none_commits u.added u.inner)) (back_commit s (old.journal ++ u.added) mark));
+    })
 
 short_home : (phase : ℕ) (old mid fin : WorldView) (mark : Mark) → IsAtRest old → (u : IsUnderWay old mid) → fin.journal ≡ mid.journal ++ r.Commit mark false ∷ [] → length u.added + 1 ≤ phase → KeepsShort phase old fin
 short_home phase old mid fin mark h u e few short =

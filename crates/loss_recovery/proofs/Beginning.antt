@@ -17,7 +17,7 @@ use Rattle.world_heal.proofs.Ways.{setting-way, rest_way, run_way, mark-rest}
 use Rattle.world_heal.specs.Mended.{IsMendable}
 use Rattle.world_heal.proofs.Later.{later-same, later-then, later-way, setting-later, fewer-later}
 use Rattle.loss_recovery.specs.Driven.{site_at, IsAtRest, CostsAtMost, Recovers, cost_of, IsDriven, IsStraight, RecoversInTime, HoldsDriven}
-use Rattle.run_laws.specs.Cuts.{NoneGoesTooFar}
+use Rattle.run_laws.specs.Cuts.{GoesRightly}
 use Rattle.loss_recovery.proofs.Attempting.{at_rest, going_way, short_way, in_time_way}
 use Rattle.loss_recovery.proofs.Holding.{holds_then, words_then, measured_spawned}
 
@@ -47,7 +47,7 @@ may-here plan old now ignores h may =
 going-then : (plan : Plan) (old now new : WorldView) → IsBegun plan old now → KeepsGoing now new → KeepsGoing old new
 going-then plan old now new h g goes =
     let s : setting_in now ≡ setting_in old = setting-later old now h.later in
-    subst (λ z. NoneGoesTooFar z new.journal) s (g (subst (λ z. NoneGoesTooFar z now.journal) (sym s) (h.goes goes)))
+    subst (λ z. GoesRightly z new.journal) s (g (subst (λ z. GoesRightly z now.journal) (sym s) (h.goes goes)))
 
 pub driven-going : (plan : Plan) (progress : Progress) (old now new : WorldView) → IsBegun plan old now → IsStraight plan progress now new → KeepsGoing old new
 driven-going plan progress old now new h g = going-then plan old now new h g.goes
@@ -76,7 +76,7 @@ again-in_time plan old now mid new h hit g recovery le heals =
 pub again-going : (plan : Plan) (old now mid new : WorldView) → IsBegun plan old now → IsHit plan.most_records now mid → KeepsGoing mid new → KeepsGoing old new
 again-going plan old now mid new h hit g =
     let s : setting_in mid ≡ setting_in now = setting-way now mid hit.under_way in
-    going-then plan old now new h (λ goes. subst (λ z. NoneGoesTooFar z new.journal) s (g (subst (λ z. NoneGoesTooFar z mid.journal) (sym s) (going_way now mid h.rest hit.under_way goes))))
+    going-then plan old now new h (λ goes. subst (λ z. GoesRightly z new.journal) s (g (subst (λ z. GoesRightly z mid.journal) (sym s) (going_way now mid h.rest hit.under_way goes))))
 
 pub again-short : (plan : Plan) (old now mid new : WorldView) → IsBegun plan old now → IsHit plan.most_records now mid → ((phase : ℕ) → KeepsShort phase mid new) → (phase : ℕ) → plan.most_records ≤ phase → KeepsShort phase old new
 again-short plan old now mid new h hit g phase le short = g phase (short_way phase now mid hit.under_way (h.short phase le short))

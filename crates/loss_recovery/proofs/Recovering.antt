@@ -8,7 +8,9 @@ use Rattle.script_lines.specs.declared.lines.Line.{Line}
 use Rattle.script_lines.specs.Lines.{IsTableOf, AreSound}
 use Rattle.run_laws.specs.Due.{numbered, has_fallen, ahead}
 use Rattle.run_laws.specs.LastCommit.{with_spawned}
-use Rattle.run_laws.specs.Cuts.{NoneGoesTooFar}
+use Rattle.rank_machine.specs.Setting.{Setting}
+use Rattle.run_laws.specs.Cuts.{GoesRightly}
+use Rattle.run_laws.proofs.LeadingBack.{back_append, back_plain}
 use Rattle.run_laws.specs.Traces.{AreShort, AllHeal, AllHealSoFar, AlwaysHold, spent, recovery_under}
 use Rattle.run_laws.proofs.Losing.{ahead-later}
 use Rattle.run_laws.proofs.Going.{go_append, go_falls}
@@ -96,8 +98,14 @@ module _ (w f : WorldView) (e : f ≡ fallen w) (due : is_due w ≡ true) where
 
   pub going_from : (new : WorldView) → KeepsGoing f new → KeepsGoing w new
   going_from new h goes =
-      let fell_so : NoneGoesTooFar (setting_in w) f.journal = subst (λ j. NoneGoesTooFar (setting_in w) j) (sym journal_fell) (go_append (setting_in w) [] w.journal fell goes (go_falls (setting_in w) w.journal (setting_in w).losses (numbered w.journal))) in
-      subst (λ s. NoneGoesTooFar s new.journal) setting_fell (h (subst (λ s. NoneGoesTooFar s f.journal) (sym setting_fell) fell_so))
+      let s : Setting = setting_in w in
+      let fell_so : GoesRightly s f.journal =
+      subst (λ j. GoesRightly s j) (sym journal_fell)
+      (record {
+        may = go_append s [] w.journal fell goes.may (go_falls s w.journal s.losses (numbered w.journal));
+        back = back_append s [] w.journal fell goes.back (back_plain s w.journal fell (falling.falls_plain s.losses (numbered w.journal)));
+      }) in
+      subst (λ z. GoesRightly z new.journal) setting_fell (h (subst (λ z. GoesRightly z f.journal) (sym setting_fell) fell_so))
 
   pub short_from : (new : WorldView) → ((phase : ℕ) → KeepsShort phase f new) → (phase : ℕ) → KeepsShort phase w new
   short_from new h phase short = h phase (subst (λ j. AreShort phase j) (sym journal_fell) (short_plain phase w.journal fell (falling.falls_plain (setting_in w).losses (numbered w.journal)) short))

@@ -2,6 +2,7 @@ pub mod Journals
 pub mod Inner
 pub mod Losing
 pub mod Going
+pub mod LeadingBack
 pub mod Shorts
 pub mod Healing
 pub mod Spawned

@@ -27,7 +27,8 @@ use Rattle.scalapack_top.specs.Readings.{Readings, after_reads, readings_of}
 use Rattle.scalapack_top.specs.Input.{◌>>=◌, matrix_from, file_then, files_from}
 use Rattle.scalapack_top.specs.Reads.{unless_ended, name_then, names_from, AreMade}
 use Rattle.scalapack_top.specs.Causes.{FailsAs, IsStep}
-use Rattle.scalapack_top.specs.Read.{file_due, IsLine, files_read, files_names, IsPart, IsPut, IsAdded, NamesText, HasFile, FileFits, HasFiles}
+use Rattle.scalapack_top.specs.Read.{file_due, IsLine, files_read, files_names, IsPart, IsPut, IsAdded, NamesText}
+use Rattle.serial_laws.specs.Files.{HasFile, FileFits, HasFiles}
 use Rattle.scalapack_top.proofs.OneRead.{then_reads, rest_of, answer_now, answer_now-is, shelf_stays, shelf_then, are_of-rest, told_then, made_at, fails_on, fails_before}
 use Rattle.scalapack_top.proofs.Steps.{later_caused}
 

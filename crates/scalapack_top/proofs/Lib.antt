@@ -1,9 +1,5 @@
-pub mod Codes
 pub mod OneRead
 pub mod Steps
 pub mod Files
 pub mod Answered
 pub mod Runnable
-pub mod CommandsLeft
-pub mod SerialReady
-pub mod SerialRun

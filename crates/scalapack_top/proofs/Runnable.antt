@@ -15,7 +15,8 @@ use Rattle.whole_run.proofs.WholeText.{whole-text, text-begins}
 use Rattle.script_run.specs.Runnable as run
 use Rattle.script_run.proofs.AcceptedLayouts.{matrix_line-from}
 use Rattle.scalapack_top.specs.declared.words.Machine.TheVariants as machine
-use Rattle.scalapack_top.specs.Read.{HasFile, FileFits, IsReady}
+use Rattle.serial_laws.specs.Files.{HasFile, FileFits}
+use Rattle.scalapack_top.specs.Read.{IsReady}
 use Rattle.scalapack_top.specs.Status.{error_text, answer_of}
 use Rattle.scalapack_top.specs.Work.{EndsBy}
 

@@ -14,6 +14,7 @@ use Rattle.rank_machine.specs.Scripts.{Matrices, file_of}
 use Rattle.script_bounds.specs.Accepted.{IsAccepted}
 use Rattle.script_rules.specs.Runs.{first_unrunnable}
 use Rattle.script_words.specs.MatrixFile.{HasResidues}
+use Rattle.serial_laws.specs.Files.{HasFiles}
 use Rattle.scalapack_top.specs.declared.status.Status.{Status}
 use Rattle.scalapack_top.specs.declared.status.Status.TheVariants as status
 use Rattle.scalapack_top.specs.declared.words.Machine.{Machine}
@@ -89,20 +90,6 @@ IsAdded line _ old new = new ≡ old
 abbrev pub NamesText : Command → Type 0
 NamesText (c.Matrix name grid m n mb nb rsrc csrc file) = IsUtf8 file
 NamesText _ = Unit {0}
-
--- the file of a line is there, with m rows and n columns
-pub record HasFile (m n : ℕ) (files : Matrices) (line : ℕ) : Type 0 where
-  pub there : map.get files line ≡ Some (file_of files line)
-  pub residues : HasResidues m n (file_of files line)
-
--- the same where the line's command is a matrix line
-abbrev pub FileFits : Option Command → Matrices → ℕ → Type 0
-FileFits (Some (c.Matrix name grid m n mb nb rsrc csrc file)) files line = HasFile m n files line
-FileFits _ files line = Unit {0}
-
--- each matrix line of a script has its file
-abbrev pub HasFiles : List (Option Command) → Matrices → Type 0
-HasFiles script files = (line : ℕ) → FileFits (command_at (commands_of script) line) files line
 
 -- a script has no line that it can't run
 abbrev pub RunsOn : Machine → List (Option Command) → Type 0

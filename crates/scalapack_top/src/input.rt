@@ -4,7 +4,8 @@ ghost use Rattle.script_bounds.specs.Accepted.{IsAccepted};
 ghost use Rattle.scalapack_top.specs.Input.{input_from};
 ghost use Rattle.scalapack_top.specs.Reads.{names_read};
 ghost use Rattle.scalapack_top.specs.Causes.{IsStep};
-ghost use Rattle.scalapack_top.specs.Read.{file_due, IsLine, files_read, files_names, input_read, IsPart, IsPut, IsAdded, NamesText, HasFiles, IsReady};
+ghost use Rattle.scalapack_top.specs.Read.{file_due, IsLine, files_read, files_names, input_read, IsPart, IsPut, IsAdded, NamesText, IsReady};
+ghost use Rattle.serial_laws.specs.Files.{HasFiles};
 
 use crate::reading::{read_matrix, read_script};
 use crate::status::Status;

@@ -4,3 +4,4 @@ pub mod Passing
 pub mod Keeping
 pub mod Telling
 pub mod ScriptLoop
+pub mod Codes

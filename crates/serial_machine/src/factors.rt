@@ -9,7 +9,7 @@ use field_core::Field;
 use run_data::Mat;
 use std::alloc::{AllocError, Global};
 
-/// Eliminates all columns of a matrix in place, as one panel (LAPACK's xGETF2, but the pivot is the first word that is not 0).
+/// Eliminates all columns of a matrix in place, by panels (LAPACK's xGETRF, but the pivot is the first word that is not 0).
 ///
 /// INFO is the number of the first column without a pivot, which is that of the first 0 on the diagonal that is left.
 pub fn factor<K: Field>(alloc: Global, a: &mut Mat) -> Result<Found, AllocError>
@@ -18,6 +18,5 @@ pub fn factor<K: Field>(alloc: Global, a: &mut Mat) -> Result<Found, AllocError>
     ensures rows { IfOk result (λ f. f.pivots.items ≡ (elimination_of K.MODULUS (inverse K.MODULUS) a.old).pivots) }
     ensures info { IfOk result (λ f. f.info ≡ (elimination_of K.MODULUS (inverse K.MODULUS) a.old).info) }
 {
-    let width = a.cols().max(1);
-    eliminate_by_panels::<K>(alloc, a, width)
+    eliminate_by_panels::<K>(alloc, a, 32)
 }

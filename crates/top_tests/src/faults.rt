@@ -104,8 +104,26 @@ const ERR_FAILS: Call<'static> = Call {
     journal_keeps: None,
 };
 
+// A loss that the run does not survive, after the matrix line.
+const BEYOND_AT_THE_PRINT: &[u8] =
+    b"grid g 1 1 0\nmatrix A g 1 1 1 1 0 0 a.txt\nprint A\nlose 2 0\n";
+
+const ERR_FAILS_AT_BEYOND: Call<'static> = Call {
+    words: &["s.txt", "--journal", "j.txt"],
+    files: &[("s.txt", BEYOND_AT_THE_PRINT), ("a.txt", b"7\n")],
+    failing_read: None,
+    room: 100,
+    err_keeps: Some(4),
+    journal_keeps: None,
+};
+
 #[test]
 fn fails_at_err(rt: HostRuntime) {
-    let want = not_written(b"", b"usage", b"");
-    check_calls(&rt, rt.alloc(), &[(ERR_FAILS, want)]);
+    let usage = not_written(b"", b"usage", b"");
+    let beyond = not_written(b"", b"beyo", b"");
+    check_calls(
+        &rt,
+        rt.alloc(),
+        &[(ERR_FAILS, usage), (ERR_FAILS_AT_BEYOND, beyond)],
+    );
 }

@@ -1,4 +1,4 @@
-//! Tests of the top call from words to bytes, and of the serial run under it, in a crate of their own, so that those crates are proved once.
+//! Tests of the top call: its words, refusals, faults of the outside, and which files it reads. Those of whole runs stand in run_tests and serial_run_tests.
 #![tactic(auto)]
 
 #[cfg(test)]
@@ -6,14 +6,8 @@ mod calls;
 #[cfg(test)]
 mod faults;
 #[cfg(test)]
-mod losses;
-#[cfg(test)]
-mod ranks;
-#[cfg(test)]
 mod refusals;
 #[cfg(test)]
-mod schedules;
-#[cfg(test)]
-mod serial;
+mod serial_words;
 #[cfg(test)]
 mod shelf_tests;

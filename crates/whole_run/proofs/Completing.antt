@@ -11,6 +11,6 @@ use Rattle.whole_run.specs.WholeRun.{Ending, done, beyond, no_spare, IsRunOf, Co
 pub completes : (script : List (Option Command)) (files : Matrices) (ending : Ending) (out journal : List ℕ) → IsRunOf script files ending out journal → Completes script files ending
 completes script files done out journal h can enough = refl
 completes script files (beyond grid row) out journal h can enough =
-    absurd (never-beyond (setting_of script files) (recovery_steps (commands_of script)) true h.records grid row h.legal.due h.in_bounds.goes h.in_bounds.heals can h.ends.here)
+    absurd (never-beyond (setting_of script files) (recovery_steps (commands_of script)) true h.records grid row h.legal.due h.in_bounds.goes.may h.in_bounds.heals can h.ends.here)
 completes script files (no_spare rank) out journal h can enough =
     absurd (never-lacks (setting_of script files) true h.records rank (setting_of script files).spares h.legal.legal h.legal.due enough h.ends.1)

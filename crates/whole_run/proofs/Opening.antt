@@ -112,7 +112,7 @@ at-opening script files room =
       stands = record { matrices = λ line name live names. absurd (no_matrix s line live); lists = λ line name live names. absurd (no_list script files line live) };
       printed = subst (λ xs. ArePrinted s ns [] xs []) (sym none) refl;
       text = sym (ap (λ xs. text_from (file_of files) xs (λ name. None)) none);
-      bounds = record { goes = tt; short = tt; heals = tt; held = λ rank lt slots distinct. omega (arith, no_words s rank slots) };
+      bounds = record { goes = record { may = tt; back = tt }; short = tt; heals = tt; held = λ rank lt slots distinct. omega (arith, no_words s rank slots) };
       few = omega (arith, few_spent (ahead_of s.losses 0 false) (losses ns) (cost ns) (omega (arith, few_ahead s.losses 0 false, losses_counted ns)));
     }
   where

@@ -15,7 +15,7 @@ use Rattle.serial_model.specs.Serial.{Values, whole, rows}
 use Rattle.dist_matrix.specs.Strips.{HasShape, NamesStrip}
 use Rattle.script_bounds.specs.Bounds.{phase_steps, recovery_steps, losses}
 use Rattle.block_world.specs.World.{WorldView, setting_in, state_of}
-use Rattle.run_laws.specs.Cuts.{NoneGoesTooFar}
+use Rattle.run_laws.specs.Cuts.{GoesRightly}
 use Rattle.run_laws.specs.Traces.{AreShort, AllHeal, AlwaysHold, spent}
 use Rattle.loss_recovery.specs.Driven.{IsAtRest}
 use Rattle.whole_run.specs.PrintedFrom.{ArePrinted}
@@ -50,9 +50,10 @@ pub record StandsFor (s : Setting) (ns : List Numbered) (st : State) (values : V
   pub lists : (line : ℕ) (name : List ℕ) → is_live_list s st.mark line ≡ true → Names ns line name → StandsForList s st line name values
 
 -- ---- a run so far
--- no record comes where the run is beyond repair; commits and recoveries come in time; and no rank holds too many words
+-- no record comes where the run is beyond repair, and each healed commit leaves what the commit before it, or the opening, had left; commits and
+-- recoveries come in time; and no rank holds too many words
 pub record IsInBounds (s : Setting) (phase recovery : ℕ) (journal : List Rec) : Type 0 where
-  pub goes : NoneGoesTooFar s journal
+  pub goes : GoesRightly s journal
   pub short : AreShort phase journal
   pub heals : AllHeal recovery s journal
   pub held : AlwaysHold s journal

@@ -38,8 +38,9 @@ EndsAs s done journal = (line : ℕ) → AllEndUntil s line journal
 EndsAs s (beyond grid row) journal = IsBeyond s (state_after s journal) grid row
 EndsAs s (no_spare rank) journal = IsWithin s (state_after s journal) × LacksSpare s (state_after s journal) rank
 
--- A run: a legal journal with the losses where the script puts them, which no record leaves from where it is beyond repair; from whose committed takes the printed text was made,
--- which is that of the serial run of the lines that have ended; in its bounds
+-- A run: a legal journal with the losses where the script puts them, which no record leaves from where it is beyond repair, and in which each healed
+-- commit leaves what the commit before it, or the opening, had left; from whose committed takes the printed text was made, which is that of the serial
+-- run of the lines that have ended; in its bounds
 pub record IsRunOf (script : List (Option Command)) (files : Matrices) (ending : Ending) (out journal : List ℕ) : Type 0 where
   pub records : List Rec
   pub legal : IsJournal (setting_of script files) (is_cut ending) records

@@ -11,7 +11,8 @@ use Rattle.rank_machine.specs.Legal.{IsLegal, some_lost}
 use Rattle.rank_machine.specs.Losses.{falls}
 use Rattle.run_laws.specs.Due.{numbered, has_fallen, ahead, is_due_in}
 use Rattle.run_laws.specs.LastCommit.{since, rest_after, with_spawned}
-use Rattle.run_laws.specs.Cuts.{MayGoOn, GoOnFrom, NoneGoesTooFar}
+use Rattle.run_laws.specs.Cuts.{MayGoOn, LeadsBack, GoOnFrom, GoesRightly}
+use Rattle.run_laws.proofs.Inner.{rest-inner}
 use Rattle.run_laws.specs.Traces.{AreShort, AllHeal, AlwaysHold, spent, recovery_under}
 use Rattle.block_world.specs.World.{WorldView, setting_in, state_of, fallen}
 use Rattle.block_world.proofs.HeldOnTheWay.{always-fallen}
@@ -148,11 +149,21 @@ module _ (old now : WorldView) (h : BeginsIn old now) where
         subst (λ j. spent bound (setting_in old) j ≤ spent bound (setting_in old) old.journal + bound) (sym k.journal)
         (healed-costs (setting_in old) bound old.journal now.journal k.added h.begins k.numbered k.plain few_records (state_of now).mark)
 
+    -- the commit leads back to what the last one left
+    leads_back : LeadsBack (setting_in old) (now.journal ++ k.added) (r.Commit (state_of now).mark true)
+    leads_back =
+        let s : Setting = setting_in old in
+        let same_new : setting_in new ≡ s = setting-later now new (record { script = k.script; files = k.files; added = k.added ++ r.Commit (state_of now).mark true ∷ []; journal = k.journal }) ∙ same in
+        let journal : new.journal ≡ (now.journal ++ k.added) ++ r.Commit (state_of now).mark true ∷ [] = k.journal ∙ sym (append_assoc now.journal k.added (r.Commit (state_of now).mark true ∷ [])) in
+        let state : state_of new ≡ state_after s ((now.journal ++ k.added) ++ r.Commit (state_of now).mark true ∷ []) = λ i. state_after (same_new i) (journal i) in
+        let rest : rest_of now ≡ rest_after s (now.journal ++ k.added) = ap (λ z. rest_after z now.journal) same ∙ sym (rest-inner s now.journal k.added k.plain) in
+        subst (λ (st : State). st ≡ with_spawned (rest_after s (now.journal ++ k.added)) st.spawned) state (k.same ∙ ap (λ st. with_spawned st (state_of new).spawned) rest)
+
     pub here-goes : KeepsGoing old new
     here-goes go =
-        subst (NoneGoesTooFar (setting_in old)) (sym k.journal)
+        subst (GoesRightly (setting_in old)) (sym k.journal)
         (healed-goes (setting_in old) bound old.journal now.journal k.added h.begins k.numbered k.plain few_records (state_of now).mark
-        (subst (λ s. GoOnFrom s now.journal (k.added ++ r.Commit (state_of now).mark true ∷ [])) same k.goes) go)
+        (subst (λ s. GoOnFrom s now.journal (k.added ++ r.Commit (state_of now).mark true ∷ [])) same k.goes) leads_back go)
 
     pub here-short : (phase : ℕ) → KeepsShort phase old new
     here-short phase short =

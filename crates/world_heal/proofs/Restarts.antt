@@ -12,12 +12,13 @@ use Rattle.rank_machine.specs.Legal.{IsLegal, some_lost}
 use Rattle.rank_machine.specs.Losses.{is_numbered, falls}
 use Rattle.run_laws.specs.Due.{numbered, ends_in, has_fallen, ahead, is_due_in}
 use Rattle.run_laws.specs.LastCommit.{is_commit, since, rest_after}
-use Rattle.run_laws.specs.Cuts.{MayGoOn, GoOnFrom, NoneGoesTooFar}
+use Rattle.run_laws.specs.Cuts.{MayGoOn, LeadsBack, GoOnFrom, GoesRightly}
 use Rattle.run_laws.specs.Traces.{count_after, AreShortFrom, AreShort, HealsWithin, HealFrom, AllHeal, AllHealSoFar, spent}
 use Rattle.run_laws.proofs.Journals.{numbered-append, since-append, since_from-append}
 use Rattle.run_laws.proofs.Inner.{rest-inner}
 use Rattle.run_laws.proofs.Losing.{ahead-later}
 use Rattle.run_laws.proofs.Going.{go_append, go_falls}
+use Rattle.run_laws.proofs.LeadingBack.{back_append, back_plain, back_healed}
 use Rattle.run_laws.proofs.Shorts.{short_plain}
 use Rattle.recovery_counts.proofs.InTime.{attempt-costs, again, in-time}
 use Rattle.world_heal.proofs.Fallen.{with_losses, falls_plain, rest_fell, some_fell, now_fell, fewer_fell, spent_fell}
@@ -109,7 +110,7 @@ pub record BeginsAgain (s : Setting) (most : ℕ) (old now : List Rec) : Type 0 
   pub lost : some_lost s (state_after s now) ≡ true
   pub rest : rest_after s now ≡ rest_after s old
   pub paid : spent most s now ≤ spent most s old
-  pub goes : NoneGoesTooFar s old → NoneGoesTooFar s now
+  pub goes : GoesRightly s old → GoesRightly s now
   pub short : (phase : ℕ) → AreShort phase old → AreShort phase now
   pub in_time : (recovery : ℕ) → most ≤ recovery → AllHealSoFar recovery s old → AllHealSoFar recovery s now
 
@@ -129,7 +130,12 @@ module _ (s : Setting) (most : ℕ) (old now added : List Rec) (h : BeginsAgain 
           lost = some_fell s mid due legal;
           rest = rest_fell s mid ∙ (rest-inner s now added plain ∙ h.rest);
           paid = pays_again (spent most s (with_losses s mid)) (spent most s mid) (spent most s now) (spent most s old) most (spent_fell s mid due most) (attempt-costs most s now added (omega (arith, numbered_all added counts, few))) h.paid;
-          goes = λ go. go_append s [] mid (falls ls n) (go_append s [] now added (h.goes go) goes) (go_falls s mid ls n);
+          goes = λ go.
+              let there : GoesRightly s now = h.goes go in
+              record {
+                may = go_append s [] mid (falls ls n) (go_append s [] now added there.may goes) (go_falls s mid ls n);
+                back = back_append s [] mid (falls ls n) (back_append s [] now added there.back (back_plain s now added plain)) (back_plain s mid (falls ls n) (falls_plain ls n));
+              };
           short = λ phase short. short_plain phase mid (falls ls n) (falls_plain ls n) (short_plain phase now added plain (h.short phase short));
           in_time = λ recovery le heals. subst (AllHealSoFar recovery s) (sym (append_assoc now added (falls ls n))) (again recovery s now added ls n (h.in_time recovery le heals) h.fell counts (omega (arith, few, le)));
         }
@@ -150,8 +156,13 @@ module _ (s : Setting) (most : ℕ) (old now added : List Rec) (h : BeginsAgain 
         let count : numbered (added ++ r.Commit mark true ∷ []) ≤ most = omega (arith, numbered-append added (r.Commit mark true ∷ []), numbered_all added counts, few) in
         pays_once (spent most s healed) (spent most s now) (spent most s old) most (attempt-costs most s now (added ++ r.Commit mark true ∷ []) count) h.paid
 
-    pub healed-goes : GoOnFrom s now (added ++ r.Commit mark true ∷ []) → NoneGoesTooFar s old → NoneGoesTooFar s healed
-    healed-goes goes go = go_append s [] now (added ++ r.Commit mark true ∷ []) (h.goes go) goes
+    pub healed-goes : GoOnFrom s now (added ++ r.Commit mark true ∷ []) → LeadsBack s (now ++ added) (r.Commit mark true) → GoesRightly s old → GoesRightly s healed
+    healed-goes goes same go =
+        let there : GoesRightly s now = h.goes go in
+        record {
+          may = go_append s [] now (added ++ r.Commit mark true ∷ []) there.may goes;
+          back = back_append s [] now (added ++ r.Commit mark true ∷ []) there.back (back_append s now added (r.Commit mark true ∷ []) (back_plain s now added plain) (back_healed s (now ++ added) mark same));
+        }
 
     pub healed-short : (phase : ℕ) → AreShort phase old → AreShort phase healed
     healed-short phase short = short_healed phase (Some 0) false now added mark h.fell (λ e. absurd (true≢false (sym e))) plain (h.short phase short)

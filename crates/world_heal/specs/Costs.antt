@@ -1,6 +1,6 @@
 -- How many records healing takes, and that its commit comes in time.
 use Rattle.std.specs.Prelude.{◌≤◌, ◌+◌, ℕ}
-use Rattle.run_laws.specs.Cuts.{NoneGoesTooFar}
+use Rattle.run_laws.specs.Cuts.{GoesRightly}
 use Rattle.run_laws.specs.Traces.{AreShort, AllHeal, AllHealSoFar, AlwaysHold, spent, recovery_under}
 use Rattle.phase_words.specs.Resting.{IsMeasured}
 use Rattle.recovery_words.specs.Roomy.{IsRoomy}
@@ -11,9 +11,9 @@ use Rattle.world_heal.specs.Ways.{rest_of}
 abbrev pub Heals : WorldView → WorldView → Type 0
 Heals old new = let most = recovery_under (setting_in old) (state_of old).mark in spent most (setting_in old) new.journal ≤ spent most (setting_in old) old.journal + most
 
--- no numbered record comes where the run is beyond repair
+-- no numbered record comes where the run is beyond repair, and each healed commit leaves what the commit before it left
 abbrev pub KeepsGoing : WorldView → WorldView → Type 0
-KeepsGoing old new = NoneGoesTooFar (setting_in old) old.journal → NoneGoesTooFar (setting_in old) new.journal
+KeepsGoing old new = GoesRightly (setting_in old) old.journal → GoesRightly (setting_in old) new.journal
 
 -- between two commits with no loss stand at most so many records
 abbrev pub KeepsShort : ℕ → WorldView → WorldView → Type 0

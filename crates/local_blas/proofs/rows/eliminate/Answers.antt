@@ -1,7 +1,7 @@
 use Rattle.std.proofs.Common.{◌∙◌, sym, arith}
 use Rattle.field_core.specs.Residue.{inverse}
 use Rattle.run_data.specs.Parts.{part_entry, whole_part}
-use Rattle.local_blas.proofs.Columns.{columns_end, filled_column, filled_within, placed_within, AreWords-columns}
+use Rattle.local_blas.proofs.Columns.{columns_end, filled_within, placed_within, AreWords-columns}
 use Rattle.local_blas.proofs.Eliminations.{first_row, eliminated_word-below, eliminate_starts, eliminate_goes_on, with_eliminated_is}
 use Rattle.local_blas.proofs.rows.eliminate.Goals as goal
 
@@ -15,9 +15,6 @@ loop-k-init g c =
 
 pub eliminate_column-requires-clause-part : goal.eliminate_column-requires-clause-part
 eliminate_column-requires-clause-part g c = filled_within _ _ _ _ _ _ c.loop-k.invariant (placed_within _ _ _ _ _ _ c.column_of-in-loop-k.ensures (omega arith) (omega arith) (omega arith) (omega arith))
-
-pub eliminate_column-requires-clause-multipliers : goal.eliminate_column-requires-clause-multipliers
-eliminate_column-requires-clause-multipliers g c = filled_column _ _ _ _ _ _ c.loop-k.invariant c.requires.column
 
 pub eliminate_column-requires-clause-words : goal.eliminate_column-requires-clause-words
 eliminate_column-requires-clause-words g c =

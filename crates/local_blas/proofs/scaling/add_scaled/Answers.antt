@@ -1,40 +1,23 @@
-use Rattle.std.proofs.Common.{◌+◌, ◌%◌, ◌∙◌, ap, arith}
-use Rattle.run_data.proofs.Fills.{fill_starts, fill_goes_on, fill_ends_column, fill_ends, fill_reads_next}
-use Rattle.local_blas.proofs.Steps.{gains_word}
-use Rattle.local_blas.proofs.Columns.{filled_row, filled_column}
+use Rattle.std.proofs.Common.{◌≡◌, ◌+◌, ◌-◌, ◌*◌, ◌%◌, ap, arith}
 use Rattle.std.proofs.Math.Nat.{mod-lt}
+use Rattle.run_data.specs.Matrix.{entry}
+use Rattle.local_blas.proofs.Columns.{columns_start, columns_left, columns_go_on, columns_end, AreWords-columns}
 use Rattle.local_blas.proofs.scaling.add_scaled.Goals as goal
 
 pub loop-j-init : goal.loop-j-init
-loop-j-init g c = fill_starts _ _ _ c.rows-shaped.ensures.shaped
+loop-j-init g c = columns_start _ _ _ c.rows-shaped.ensures.shaped
 
-pub add-requires-clause-left : goal.add-requires-clause-left
-add-requires-clause-left g c =
-    rw (fill_reads_next _ _ _ _ _ _ _ c.loop-i.invariant c.get-word.ensures c.requires.dst_part (omega arith) (omega arith)) (c.requires.dst_words.below c.loop-i.i c.loop-j.j)
-
-pub get-word-requires-clause-row : goal.get-word-requires-clause-row
-get-word-requires-clause-row g c = filled_row _ _ _ _ _ _ c.loop-i.invariant (omega arith)
-
-pub get-word-requires-clause-column : goal.get-word-requires-clause-column
-get-word-requires-clause-column g c = filled_column _ _ _ _ _ _ c.loop-i.invariant (omega arith)
-
-pub add-requires-clause-right : goal.add-requires-clause-right
-add-requires-clause-right g c = rw c.mul.ensures (mod-lt _ (omega (arith, g.met.K.Field.at_least)))
-
-pub set-requires-clause-row : goal.set-requires-clause-row
-set-requires-clause-row g c = filled_row _ _ _ _ _ _ c.loop-i.invariant (omega arith)
-
-pub set-requires-clause-column : goal.set-requires-clause-column
-set-requires-clause-column g c = filled_column _ _ _ _ _ _ c.loop-i.invariant (omega arith)
-
-pub loop-i-preserved : goal.loop-i-preserved
-loop-i-preserved g c =
-    fill_goes_on _ _ _ _ _ _ _ _ c.loop-i.invariant c.set.ensures (omega arith) (omega arith) (omega arith) (omega arith)
-    (gains_word _ _ _ _ _ _ _ c.get-other.ensures c.mul.ensures
-    (c.add.ensures ∙ ap (λ x. (x + c.mul.result) % g.K.Field.MODULUS) (fill_reads_next _ _ _ _ _ _ _ c.loop-i.invariant c.get-word.ensures c.requires.dst_part (omega arith) (omega arith))))
+pub add_scaled_column-requires-clause-dst_words : goal.add_scaled_column-requires-clause-dst_words
+add_scaled_column-requires-clause-dst_words g c =
+    AreWords-columns _ _ _ _ _ _ c.loop-j.invariant (omega (arith, g.met.K.Field.at_least)) c.requires.dst_words (λ i j. mod-lt _ (omega (arith, g.met.K.Field.at_least)))
 
 pub loop-j-preserved : goal.loop-j-preserved
-loop-j-preserved g c = c.loop-i.invariant ∙ fill_ends_column _ _ _ _ _ (omega arith)
+loop-j-preserved g c =
+    let j = c.loop-j.j in
+    let sp = c.args.sp in
+    columns_go_on _ _ _ _ _ _ _ c.loop-j.invariant (rw (c.column_of.ensures, c.column_of-column.ensures) at c.add_scaled_column.ensures) c.requires.dst_part (omega arith) (omega arith)
+    (λ r h1 h2. rw (columns_left _ _ _ _ _ _ c.loop-j.invariant c.requires.dst_part h1 h2 (omega arith)) (ap (λ k. (entry c.args.dst.now r j + c.args.a * entry c.args.src.now (sp.r0 + (r - c.args.at.r0)) k) % g.K.Field.MODULUS)
+    (let e : sp.c0 + (j - c.args.at.c0) + (j - j) ≡ sp.c0 + (j - c.args.at.c0) = omega arith in e)))
 
 pub returns : goal.returns
-returns g c = c.loop-j.invariant ∙ fill_ends _ _ _ _ _ (omega arith)
+returns g c = columns_end _ _ _ _ _ c.loop-j.invariant (omega arith)

@@ -1,13 +1,9 @@
 use Rattle.std.proofs.Common.{◌≡◌, ◌+◌, ◌-◌, ◌*◌, ◌%◌}
 use Rattle.run_data.specs.Matrix.{entry}
 use Rattle.run_data.specs.Parts.{part_entry}
-use Rattle.run_data.proofs.Fills.{with_filled}
+use Rattle.local_blas.proofs.Columns.{with_columns}
 use Rattle.local_blas.proofs.scaling.add_scaled.Given as goal
 
 abbrev pub invariant-loop-j : goal.invariant-loop-j
 invariant-loop-j g l =
-    l.dst ≡ with_filled l.fn.dst l.at (λ i j. (entry l.fn.dst i j + l.a * part_entry l.src l.sp (i - l.at.r0) (j - l.at.c0)) % g.K.Field.MODULUS) l.at.r0 l.j
-
-abbrev pub invariant-loop-i : goal.invariant-loop-i
-invariant-loop-i g l =
-    l.dst ≡ with_filled l.fn.dst l.at (λ i j. (entry l.fn.dst i j + l.a * part_entry l.src l.sp (i - l.at.r0) (j - l.at.c0)) % g.K.Field.MODULUS) l.i l.j
+    l.dst ≡ with_columns l.fn.dst l.at (λ r c. (entry l.fn.dst r c + l.a * part_entry l.src l.sp (r - l.at.r0) (c - l.at.c0)) % g.K.Field.MODULUS) l.j

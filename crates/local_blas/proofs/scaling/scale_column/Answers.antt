@@ -1,31 +1,25 @@
-use Rattle.std.proofs.Common.{◌*◌, ◌%◌, ◌∙◌, ap, arith}
-use Rattle.run_data.proofs.Fills.{fill_starts, fill_goes_on, fill_ends_column, fill_ends, fill_reads_next}
-use Rattle.local_blas.proofs.Columns.{filled_row, filled_column}
+use Rattle.std.proofs.Common.{length, ◌≡◌, ◌≤◌, ◌+◌, ◌-◌, ◌*◌, ◌%◌, ◌∙◌, refl, arith}
+use Rattle.run_data.specs.Matrix.{entry}
+use Rattle.local_blas.proofs.ColumnWords.{entries_small, part_small, part_long, column_in, column_read, column_written, scaled_from}
 use Rattle.local_blas.proofs.scaling.scale_column.Goals as goal
 
-pub loop-i-init : goal.loop-i-init
-loop-i-init g c = fill_starts _ _ _ c.rows-shaped.ensures.shaped
-
-pub get-word-requires-clause-row : goal.get-word-requires-clause-row
-get-word-requires-clause-row g c = filled_row _ _ _ _ _ _ c.loop-i.invariant (omega arith)
-
-pub get-word-requires-clause-column : goal.get-word-requires-clause-column
-get-word-requires-clause-column g c = filled_column _ _ _ _ _ _ c.loop-i.invariant (omega arith)
-
-pub mul-requires-clause-left : goal.mul-requires-clause-left
-mul-requires-clause-left g c =
-    rw (fill_reads_next _ _ _ _ _ _ _ c.loop-i.invariant c.get-word.ensures c.requires.dst_part (omega arith) (omega arith)) (c.requires.dst_words.below c.loop-i.i c.args.at.c0)
-
-pub set-requires-clause-row : goal.set-requires-clause-row
-set-requires-clause-row g c = filled_row _ _ _ _ _ _ c.loop-i.invariant (omega arith)
-
-pub set-requires-clause-column : goal.set-requires-clause-column
-set-requires-clause-column g c = filled_column _ _ _ _ _ _ c.loop-i.invariant (omega arith)
-
-pub loop-i-preserved : goal.loop-i-preserved
-loop-i-preserved g c =
-    fill_goes_on _ _ _ _ _ _ _ _ c.loop-i.invariant c.set.ensures (omega arith) (omega arith) (omega arith) (omega arith)
-    (c.mul.ensures ∙ ap (λ x. (x * c.args.a) % g.K.Field.MODULUS) (fill_reads_next _ _ _ _ _ _ _ c.loop-i.invariant c.get-word.ensures c.requires.dst_part (omega arith) (omega arith)))
+pub scale-requires-clause-words : goal.scale-requires-clause-words
+scale-requires-clause-words g c =
+    part_small c.words_mut-words.result.now _ _
+    (entries_small g.K.Field.MODULUS c.args.dst.now c.words_mut-words.result.now c.words_mut-words.ensures.shaped c.words_mut-words.ensures.size c.words_mut-words.ensures.words
+    g.met.K.Field.at_least g.met.K.Field.at_most c.requires.dst_words)
 
 pub returns : goal.returns
-returns g c = c.loop-i.invariant ∙ fill_ends_column _ _ _ _ _ (omega arith) ∙ fill_ends _ _ _ _ _ (omega arith)
+returns g c =
+    let dst = c.args.dst.now in
+    let at = c.args.at in
+    let ws = c.words_mut-words.result.now in
+    let lo = at.c0 * c.rows.result + at.r0 in
+    let n = at.c0 * c.rows.result + at.r1 - lo in
+    let e_n : n ≡ at.r1 - at.r0 = omega arith in
+    let room : lo + n ≤ length ws = omega (arith, column_in dst at c.rows.result (length ws) c.requires.dst_part c.requires.column c.rows.ensures.value c.words_mut-words.ensures.size, c.requires.dst_part.rows_ordered) in
+    let long = part_long ws lo n room in
+    column_written dst at ws c.scale.new.x c.rows.result lo n (λ r k. (entry dst r k * c.args.a) % g.K.Field.MODULUS) c.requires.dst_part c.requires.column c.rows.ensures.value refl e_n
+    c.words_mut-words.ensures.size c.words_mut-words.ensures.words (c.scale.ensures.length ∙ long)
+    (λ m lt. scaled_from _ c.args.a _ (entry dst (at.r0 + m) at.c0) g.K.Field.MODULUS c.MODULUS.result (c.scale.ensures.value m (omega (arith, long, lt)))
+    (column_read dst at ws c.rows.result lo n m c.requires.dst_part c.requires.column c.rows.ensures.value refl e_n c.words_mut-words.ensures.words lt) c.MODULUS.ensures)

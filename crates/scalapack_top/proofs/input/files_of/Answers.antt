@@ -1,6 +1,6 @@
 use Rattle.std.proofs.Common.{◌≡◌, get_or, sym, subst, refl}
 use Rattle.script_bounds.specs.Accepted.{IsAccepted}
-use Rattle.scalapack_top.specs.Read.{HasFiles}
+use Rattle.serial_laws.specs.Files.{HasFiles}
 use Rattle.scalapack_top.proofs.Files.{names_text, none_read, skipped, read_more, read_fails, all_read, all_there, part_of}
 use Rattle.scalapack_top.proofs.input.files_of.Goals as goal
 use Rattle.scalapack_top.proofs.input.files_of.Goals.{in-Some+in-Ok, in_default}

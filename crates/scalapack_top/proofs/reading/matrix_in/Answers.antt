@@ -1,4 +1,4 @@
-use Rattle.scalapack_top.proofs.Codes.{code_of_matrix}
+use Rattle.script_text.proofs.Codes.{code_of_matrix}
 use Rattle.scalapack_top.proofs.reading.matrix_in.Goals as goal
 
 pub returns-in-Err-Refused-clause-fault : goal.returns-in-Err-Refused-clause-fault

@@ -1,4 +1,4 @@
-use Rattle.scalapack_top.proofs.Codes.{code_of_script}
+use Rattle.script_text.proofs.Codes.{code_of_script}
 use Rattle.scalapack_top.proofs.reading.parsed.Goals as goal
 
 pub returns-in-Err-Refused-clause-fault : goal.returns-in-Err-Refused-clause-fault

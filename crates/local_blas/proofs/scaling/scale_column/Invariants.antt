@@ -1,7 +1,0 @@
-use Rattle.std.proofs.Common.{◌≡◌, ◌*◌, ◌%◌}
-use Rattle.run_data.specs.Matrix.{entry}
-use Rattle.run_data.proofs.Fills.{with_filled}
-use Rattle.local_blas.proofs.scaling.scale_column.Given as goal
-
-abbrev pub invariant-loop-i : goal.invariant-loop-i
-invariant-loop-i g l = l.dst ≡ with_filled l.fn.dst l.at (λ i j. (entry l.fn.dst i j * l.a) % g.K.Field.MODULUS) l.i l.at.c0

@@ -1,0 +1,3 @@
+pub mod CommandsLeft
+pub mod SerialReady
+pub mod SerialRun
