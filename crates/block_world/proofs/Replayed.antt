@@ -155,24 +155,18 @@ pub down_at : (n rank : ℕ) → flag_at (replicate n false) rank ≡ false
 down_at n rank = all_down n rank
 
 -- ---- what a table says of the setting
-some_words : (p : ℕ) → 65537 ≡ p → 0 < p
-some_words p e = omega (arith, e)
-
 pub agrees : (p : ℕ) (script : List (Option Command)) (files : Matrices) (table : List Line) → IsSound p (setting_of script files) → IsTableOf (setting_of script files).jobs table → AgreesOn (setting_of script files) p table
 agrees p script files table sound lines =
     let s : Setting = setting_of script files in
     record {
-      some = some_words p sound.modulus;
+      some = omega (arith, sound.large);
       modulus = sound.modulus;
       inverses = ap inverse sound.modulus;
       layouts = layout_on s table p lines;
       matrices = is_matrix_on s table p lines;
     }
 
-large : (p : ℕ) → 65537 ≡ p → 32 < p
-large p e = omega (arith, e)
-
 pub below : (p : ℕ) (script : List (Option Command)) (files : Matrices) → IsField p → IsSound p (setting_of script files) → AreFactorsBelow (setting_of script files) p
 below p script files field sound =
     let s : Setting = setting_of script files in
-    factors_below p (omega (arith, large p sound.modulus)) field s sound.modulus (ap inverse sound.modulus) sound.scalars sound.grids
+    factors_below p (omega (arith, sound.large)) field s sound.modulus (ap inverse sound.modulus) sound.scalars sound.grids

@@ -11,7 +11,8 @@ use Rattle.rank_machine.specs.declared.slot.Tile.TheVariants.{Words}
 use Rattle.rank_machine.specs.declared.slot.Piece.TheVariants.{Whole}
 use Rattle.rank_machine.specs.declared.kernel.Cut.TheVariants as cut
 use Rattle.rank_machine.specs.declared.kernel.Kernel.TheVariants as k
-use Rattle.rank_machine.specs.Setting.{Setting, Layout}
+use Rattle.rank_machine.specs.declared.layout.Layout.{Layout}
+use Rattle.rank_machine.specs.Setting.{Setting}
 use Rattle.rank_machine.specs.CodeLaw.{slot_at}
 use Rattle.script_lines.specs.Lines.{setting_on}
 use Rattle.round_laws.specs.Holdings.{Holding}

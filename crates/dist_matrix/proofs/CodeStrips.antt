@@ -10,7 +10,8 @@ use Rattle.run_data.proofs.Matrices.{rows-tabulate, cols-tabulate, entry-tabulat
 use Rattle.blacs_grid.specs.Places.{width, rank_at, is_member}
 use Rattle.rank_machine.specs.declared.slot.SlotKind.TheVariants.{Data, Code}
 use Rattle.rank_machine.specs.declared.slot.Tile.TheVariants.{Words}
-use Rattle.rank_machine.specs.Setting.{Setting, Layout, strip_rows}
+use Rattle.rank_machine.specs.declared.layout.Layout.{Layout}
+use Rattle.rank_machine.specs.Setting.{Setting, strip_rows}
 use Rattle.rank_machine.specs.State.{State, same_slot}
 use Rattle.rank_machine.specs.Effect.{words_of}
 use Rattle.rank_machine.specs.CodeLaw.{slot_at, is_strip_of, data_word}

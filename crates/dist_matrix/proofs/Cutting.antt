@@ -7,7 +7,8 @@ use Rattle.run_data.proofs.Matrices.{rows-tabulate, cols-tabulate, entry-tabulat
 use Rattle.run_data.proofs.Fills.{all_of}
 use Rattle.array_desc.specs.Maps.{global}
 use Rattle.blacs_grid.specs.Places.{row_of, col_of}
-use Rattle.rank_machine.specs.Setting.{Layout, strip_rows, strip_of, block_at}
+use Rattle.rank_machine.specs.declared.layout.Layout.{Layout}
+use Rattle.rank_machine.specs.Setting.{strip_rows, strip_of, block_at}
 
 padded-word : (rows nb n first columns : ℕ) (f g : ℕ → ℕ → ℕ) (i j : ℕ) → columns ≡ min (n - first) nb → i < rows → j < nb → g i j ≡ 0
     → patched (all_of rows columns) (λ i j. f i (first + j)) g i j ≡ (if nat_lt (first + j) n then f i (first + j) else 0)

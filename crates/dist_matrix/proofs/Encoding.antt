@@ -23,7 +23,8 @@ use Rattle.rank_machine.specs.declared.slot.Piece.TheVariants.{Whole}
 use Rattle.rank_machine.specs.declared.kernel.Cut.TheVariants as cut
 use Rattle.rank_machine.specs.declared.kernel.Kernel.{Kernel}
 use Rattle.rank_machine.specs.declared.kernel.Kernel.TheVariants as k
-use Rattle.rank_machine.specs.Setting.{Setting, Layout, strip_rows, grid_of_rank}
+use Rattle.rank_machine.specs.declared.layout.Layout.{Layout}
+use Rattle.rank_machine.specs.Setting.{Setting, strip_rows, grid_of_rank}
 use Rattle.rank_machine.specs.State.{State, same_slot}
 use Rattle.rank_machine.specs.Effect.{words_of, cut_out, made_by}
 use Rattle.rank_machine.specs.Legal.{is_path, holds_words, height, breadth, same_area}

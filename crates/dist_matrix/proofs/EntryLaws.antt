@@ -10,7 +10,8 @@ use Rattle.array_desc.proofs.CountLaws.{local-lt, global-lt}
 use Rattle.array_desc.proofs.GroupLaws.{owner-in_group, group_of-block_in, only-block_in, group_of_column-lt}
 use Rattle.blacs_grid.specs.Places.{row_of, col_of, rank_at, width}
 use Rattle.blacs_grid.proofs.PlaceLaws.{width-pos, row_of-lt, row_of-rank_at, col_of-rank_at, rank_at-coords, is_data_rank-member, is_data_rank-col, is_data_rank-rank_at}
-use Rattle.rank_machine.specs.Setting.{Layout, strip_rows, block_at, global_row, global_col}
+use Rattle.rank_machine.specs.declared.layout.Layout.{Layout}
+use Rattle.rank_machine.specs.Setting.{strip_rows, block_at, global_row, global_col}
 use Rattle.dist_matrix.specs.Strips.{NamesStrip, LiesInOneStrip, holds_entry, word_in_strip, rank_of_entry, group_of_entry}
 use Rattle.script_lines.specs.Layouts.{IsLayout}
 

@@ -8,7 +8,8 @@ use Rattle.run_data.proofs.Matrices.{rows-tabulate, cols-tabulate, entry-tabulat
 use Rattle.run_data.proofs.Fills.{is_passed_down}
 use Rattle.array_desc.specs.Maps.{local}
 use Rattle.blacs_grid.specs.Places.{row_of, col_of}
-use Rattle.rank_machine.specs.Setting.{Layout, strip_rows, block_at, global_row, global_col}
+use Rattle.rank_machine.specs.declared.layout.Layout.{Layout}
+use Rattle.rank_machine.specs.Setting.{strip_rows, block_at, global_row, global_col}
 use Rattle.dist_matrix.specs.Strips.{HasShape, NamesStrip, holds_entry, word_in_strip, with_strip}
 use Rattle.script_lines.specs.Layouts.{IsLayout}
 use Rattle.dist_matrix.proofs.EntryLaws.{some_block_column, row-from_local, local-below, column-from_local, holds_entry-at, local-global_row, word_in_strip-at}

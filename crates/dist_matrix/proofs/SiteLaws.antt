@@ -8,7 +8,8 @@ use Rattle.run_data.specs.Script.{Numbered, commands_of, command_at}
 use Rattle.run_data.proofs.Lines.{command_at-before}
 use Rattle.blacs_grid.specs.declared.Grid.{Grid}
 use Rattle.rank_machine.specs.declared.mark.Mark.{Mark}
-use Rattle.rank_machine.specs.Setting.{Job, Layout, job_in, no_grid, no_layout, layout, is_matrix, factored, grid_numbered}
+use Rattle.rank_machine.specs.declared.layout.Layout.{Layout}
+use Rattle.rank_machine.specs.Setting.{Job, job_in, no_grid, no_layout, layout, is_matrix, factored, grid_numbered}
 use Rattle.rank_machine.specs.Scripts.{grids_from}
 use Rattle.rank_machine.specs.State.{first_mark}
 use Rattle.rank_machine.specs.Effect.{has_ended, is_dropped, is_live_matrix, is_live_list}

@@ -15,7 +15,8 @@ use Rattle.blacs_grid.specs.Places.{row_of, col_of, member, members, number_in}
 use Rattle.blacs_grid.proofs.ScopeLaws.{number_in-lt, member-number_in}
 use Rattle.rank_machine.specs.declared.slot.SlotKind.TheVariants.{Data}
 use Rattle.rank_machine.specs.declared.slot.Tile.TheVariants.{Words}
-use Rattle.rank_machine.specs.Setting.{Layout, Setting, layout, group_count, strip_rows, strip_of, block_at, global_row, global_col}
+use Rattle.rank_machine.specs.declared.layout.Layout.{Layout}
+use Rattle.rank_machine.specs.Setting.{Setting, layout, group_count, strip_rows, strip_of, block_at, global_row, global_col}
 use Rattle.rank_machine.specs.State.{Took}
 use Rattle.rank_machine.specs.Printed.{taken_from, IsPrinted}
 use Rattle.dist_matrix.specs.Strips.{HasShape, NamesStrip, rank_of_entry, group_of_entry, holds_entry, word_in_strip, with_strip, HasStripShape, HoldsEntries, IsPadded, with_strips, HasEveryStrip, strips_of_group, all_strips}

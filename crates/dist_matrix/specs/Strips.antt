@@ -7,7 +7,8 @@ use Rattle.array_desc.specs.Maps.{owner, local, group_of}
 use Rattle.blacs_grid.specs.declared.Grid.{Grid}
 use Rattle.blacs_grid.specs.declared.Scope.TheVariants.{All}
 use Rattle.blacs_grid.specs.Places.{row_of, col_of, rank_at, is_data_rank, member, members}
-use Rattle.rank_machine.specs.Setting.{Layout, group_count, strip_rows, strip_of, block_at, global_col}
+use Rattle.rank_machine.specs.declared.layout.Layout.{Layout}
+use Rattle.rank_machine.specs.Setting.{group_count, strip_rows, strip_of, block_at, global_col}
 
 -- how a matrix of this descriptor lies on this grid
 abbrev pub layout_of : Grid → Desc → Layout

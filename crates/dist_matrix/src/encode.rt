@@ -3,7 +3,7 @@ ghost use Rattle.std.specs.Prelude.{◌≡◌, ◌<◌, ◌++◌, OnOk};
 ghost use Rattle.field_core.specs.Residue.{inverse};
 ghost use Rattle.rank_machine.specs.Setting.{layout};
 ghost use Rattle.rank_machine.specs.CodeLaw.{slot_at};
-ghost use Rattle.script_lines.specs.Layouts.{IsLayout, seen};
+ghost use Rattle.script_lines.specs.Layouts.{IsLayout};
 ghost use Rattle.dist_matrix.specs.Site.{setting_in};
 ghost use Rattle.dist_matrix.specs.Encode.{adding_events, summing_events, row_events, group_events};
 
@@ -41,8 +41,8 @@ pub fn encode_group_on<K: Field>(
     line: u32,
     group: u32,
 ) -> Result<(), NoMemory>
-    requires laid_out { IsLayout (seen at) }
-    ensures events { OnOk result (round.new ≡ round.old ++ group_events (inverse K.MODULUS) (seen at) line group) }
+    requires laid_out { IsLayout at }
+    ensures events { OnOk result (round.new ≡ round.old ++ group_events (inverse K.MODULUS) at line group) }
 {
     for row in 0..at.grid.p {
         encode_row(round, at, line, group, row)?;
@@ -58,9 +58,9 @@ fn encode_row<K: Field>(
     group: u32,
     row: u32,
 ) -> Result<(), NoMemory>
-    requires laid_out { IsLayout (seen at) }
+    requires laid_out { IsLayout at }
     requires row_in { row < at.grid.p }
-    ensures { OnOk result (round.new ≡ round.old ++ row_events (inverse K.MODULUS) (seen at) line group row) }
+    ensures { OnOk result (round.new ≡ round.old ++ row_events (inverse K.MODULUS) at line group row) }
 {
     for column in 0..at.grid.f {
         sum_strips(round, at, line, group, row, column)?;
@@ -77,10 +77,10 @@ fn sum_strips<K: Field>(
     row: u32,
     column: u32,
 ) -> Result<(), NoMemory>
-    requires laid_out { IsLayout (seen at) }
+    requires laid_out { IsLayout at }
     requires row_in { row < at.grid.p }
     requires code_column { column < at.grid.f }
-    ensures { OnOk result (round.new ≡ round.old ++ summing_events (inverse K.MODULUS) (seen at) line group row column) }
+    ensures { OnOk result (round.new ≡ round.old ++ summing_events (inverse K.MODULUS) at line group row column) }
 {
     let rank = at.grid.rank(row, at.grid.q + column);
     let strip = slot_at(SlotKind::Code, line, group);
@@ -102,11 +102,11 @@ fn add_strip<K: Field>(
     column: u32,
     source: u32,
 ) -> Result<(), NoMemory>
-    requires laid_out { IsLayout (seen at) }
+    requires laid_out { IsLayout at }
     requires row_in { row < at.grid.p }
     requires code_column { column < at.grid.f }
     requires data_column { source < at.grid.q }
-    ensures { OnOk result (round.new ≡ round.old ++ adding_events (inverse K.MODULUS) (seen at) line group row column source) }
+    ensures { OnOk result (round.new ≡ round.old ++ adding_events (inverse K.MODULUS) at line group row column source) }
 {
     let from = at.grid.rank(row, source);
     let to = at.grid.rank(row, at.grid.q + column);

@@ -3,7 +3,8 @@
 
 ghost use Rattle.std.specs.Prelude.{◌≡◌, ℕ, ◌<◌, List};
 ghost use Rattle.run_data.specs.Matrix.{Matrix, IsShaped};
-ghost use Rattle.rank_machine.specs.Setting.{Setting, Layout};
+ghost use Rattle.rank_machine.specs.declared.layout.Layout.{Layout};
+ghost use Rattle.rank_machine.specs.Setting.{Setting};
 ghost use Rattle.rank_machine.specs.State.{State};
 ghost use Rattle.rank_machine.specs.Legal.{IsLegalFrom};
 ghost use Rattle.rank_slots.specs.Stands.{records_of};

@@ -127,8 +127,8 @@ impl<'a> Site<'a> {
     /// Where the matrix that a line makes lies, whether it is there or not; where a line makes none, as a matrix of one word on one
     /// rank without code columns.
     pub fn layout(&self, line: u32) -> Layout
-        ensures value { lines.seen result ≡ layout (setting_in self.now) line }
-        ensures laid_out { lines.IsLayout (lines.seen result) }
+        ensures value { result ≡ layout (setting_in self.now) line }
+        ensures laid_out { lines.IsLayout result }
     {
         layout_at(&self.table, line)
     }

@@ -11,7 +11,7 @@ use Rattle.run_data.proofs.PartLaws.{AreWords-from_inside, AreWords-tabulate, ro
 use Rattle.local_blas.specs.Kernels.{AreWords}
 use Rattle.serial_model.specs.Elimination.{Eliminated, eliminate_columns, untouched, elimination, least_zero, diagonal, pivot_row, came_from, exchanged}
 use Rattle.elimination.specs.Panels.{IsReady, AgreesOn, IsPanel, carried}
-use Rattle.elimination.specs.Whole.{AreRows, with_rows_exchanged, with_carried, strip_of, strip_state, whole_state}
+use Rattle.elimination.specs.Whole.{AreRows, with_rows_exchanged, with_carried, strip_of_words, strip_state, whole_state}
 use Rattle.elimination.proofs.Steps.{step-agrees}
 use Rattle.elimination.proofs.PanelLaws.{ready-columns, columns-agree, columns-split, column-carried_by, column-exchanged_by}
 use Rattle.elimination.proofs.Info.{least_zero-same, info-is_test}
@@ -107,7 +107,7 @@ pub record IsDone (p : ℕ) (inverse : ℕ → ℕ) (a : Matrix) (v : List ℕ) 
   pub words : (i k : ℕ) → first ≤ k → k < end → entry panel i (k - first) ≡ (eliminate_columns p inverse a.rows first n (whole_state a v)).words i k
   pub pivots : w ≡ (eliminate_columns p inverse a.rows first n (whole_state a v)).pivots
 
-pub panel_done : (p : ℕ) (inverse : ℕ → ℕ) (a panel0 panel : Matrix) (v w : List ℕ) (first end n : ℕ) → IsShaped a → AreWords p a → length v ≡ first → first ≤ end → n ≤ end - first → first + n ≤ a.rows → panel0 ≡ cut_columns a first end → panel ≡ strip_of panel0.rows (cols panel0) first (eliminate_columns p inverse panel0.rows first n (strip_state first panel0 v)).words → w ≡ (eliminate_columns p inverse panel0.rows first n (strip_state first panel0 v)).pivots → IsDone p inverse a v first end n panel w
+pub panel_done : (p : ℕ) (inverse : ℕ → ℕ) (a panel0 panel : Matrix) (v w : List ℕ) (first end n : ℕ) → IsShaped a → AreWords p a → length v ≡ first → first ≤ end → n ≤ end - first → first + n ≤ a.rows → panel0 ≡ cut_columns a first end → panel ≡ strip_of_words panel0.rows (cols panel0) first (eliminate_columns p inverse panel0.rows first n (strip_state first panel0 v)).words → w ≡ (eliminate_columns p inverse panel0.rows first n (strip_state first panel0 v)).pivots → IsDone p inverse a v first end n panel w
 panel_done p inverse a panel0 panel v w first end n shaped words count ordered narrow inside cut made list =
     let m = a.rows in
     let s = whole_state a v in
@@ -121,7 +121,7 @@ panel_done p inverse a panel0 panel v w first end n shaped words count ordered n
     let agree : AgreesOn first (first + (end - first)) t u = columns-agree p inverse m first (end - first) (strip_state first panel0 v) s n narrow start in
     let f : ℕ → ℕ → ℕ = λ i j. t.words i (first + j) in
     let is : panel ≡ tabulate m (end - first) f =
-    made ∙ ap (λ r. strip_of r (cols panel0) first (eliminate_columns p inverse r first n (strip_state first panel0 v)).words) rows0 ∙ ap (λ c. tabulate m c f) cols0 in
+    made ∙ ap (λ r. strip_of_words r (cols panel0) first (eliminate_columns p inverse r first n (strip_state first panel0 v)).words) rows0 ∙ ap (λ c. tabulate m c f) cols0 in
     let ready : IsReady p m (first + n) u = ready-columns p inverse m first n s inside (ready_whole p a v first shaped words count) in
     record {
       rows = ap (λ b. b.rows) is ∙ rows-tabulate m (end - first) f;

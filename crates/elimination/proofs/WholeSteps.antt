@@ -14,7 +14,7 @@ use Rattle.run_data.proofs.PartLaws.{AreWords-tabulate}
 use Rattle.elimination.proofs.Info.{swapped-first}
 use Rattle.elimination.proofs.Pivots.{pivot_from-none, pivot_from-some}
 use Rattle.elimination.proofs.Words.{multiplier_at, column-above, column-left, column-multiplier, column-right}
-use Rattle.elimination.specs.Whole.{strip_words, strip_of, strip_state}
+use Rattle.elimination.specs.Whole.{strip_words, strip_of_words, strip_state}
 
 pub patched_in : (at : Part) (f g : ℕ → ℕ → ℕ) (r c : ℕ) → at.r0 ≤ r → r < at.r1 → at.c0 ≤ c → c < at.c1 → patched at f g r c ≡ f r c
 unfolding patched
@@ -29,7 +29,7 @@ unfolding patched
 patched_left at f g r c h = grind (arith, nat_tests)
 
 -- the kernels do one column of a strip: the rows change places, and the rows below lose their multiples of the pivot's row
-pub strip_step : (p : ℕ) (inverse : ℕ → ℕ) (a b row u : Matrix) (first j r : ℕ) → first + j < a.rows → j < cols a → b ≡ with_rows_swapped a (first + j) r → row ≡ part_of b (record { r0 = first + j; r1 = first + j + 1; c0 = 0; c1 = cols a }) → u ≡ with_eliminated p inverse b (nat_le (first + j + 1)) j row (whole_part row) → ((i : ℕ) → i < a.rows → swapped (first + j) r i < a.rows) → u ≡ strip_of a.rows (cols a) first (subtract p (first + j) (divide p inverse (first + j) (exchange (first + j) r (strip_words first a))))
+pub strip_step : (p : ℕ) (inverse : ℕ → ℕ) (a b row u : Matrix) (first j r : ℕ) → first + j < a.rows → j < cols a → b ≡ with_rows_swapped a (first + j) r → row ≡ part_of b (record { r0 = first + j; r1 = first + j + 1; c0 = 0; c1 = cols a }) → u ≡ with_eliminated p inverse b (nat_le (first + j + 1)) j row (whole_part row) → ((i : ℕ) → i < a.rows → swapped (first + j) r i < a.rows) → u ≡ strip_of_words a.rows (cols a) first (subtract p (first + j) (divide p inverse (first + j) (exchange (first + j) r (strip_words first a))))
 strip_step p inverse a b row u first j r hd hj eb erow eu inside =
     let m = a.rows in
     let c = cols a in
@@ -87,7 +87,7 @@ column_some p inverse first j r a v h1 h2 nonzero before =
     ap (with_pivot p inverse (first + j) (strip_state first a v)) (pivot_from-some (λ i. strip_words first a i (first + j)) (first + j) (a.rows - (first + j)) r h1 (omega arith)
     (λ e. nonzero (sym (strip_column first j a r) ∙ e)) (λ k g1 g2. strip_column first j a k ∙ before k g1 g2))
 
-pub strip_stays : (first : ℕ) (a : Matrix) → IsShaped a → a ≡ strip_of a.rows (cols a) first (strip_words first a)
+pub strip_stays : (first : ℕ) (a : Matrix) → IsShaped a → a ≡ strip_of_words a.rows (cols a) first (strip_words first a)
 strip_stays first a shaped =
     tabulate_is a a.rows (cols a) (λ i k. strip_words first a i (first + k)) shaped refl refl (λ i k _ _. sym (strip_column first k a i))
 
@@ -108,16 +108,16 @@ pivot_word a b row d r n j eb erow en hd hj =
     ∙ ap (λ a. entry a d j) eb ∙ entry-tabulate a.rows (cols a) (λ i k. entry a (swapped d r i) k) d j hd hj ∙ ap (λ i. entry a i j) (swapped-first d r)
 
 -- a column without a pivot, and one with the pivot's row r, as the kernels do them
-pub none_matrix : (p : ℕ) (inverse : ℕ → ℕ) (first j : ℕ) (a : Matrix) (v : List ℕ) → IsShaped a → first + j < a.rows → ((i : ℕ) → first + j ≤ i → i < a.rows → entry a i j ≡ 0) → a ≡ strip_of a.rows (cols a) first (eliminate_column p inverse a.rows (first + j) (strip_state first a v)).words
-none_matrix p inverse first j a v shaped h none = strip_stays first a shaped ∙ ap (λ s. strip_of a.rows (cols a) first s.words) (sym (column_none p inverse first j a v h none))
+pub none_matrix : (p : ℕ) (inverse : ℕ → ℕ) (first j : ℕ) (a : Matrix) (v : List ℕ) → IsShaped a → first + j < a.rows → ((i : ℕ) → first + j ≤ i → i < a.rows → entry a i j ≡ 0) → a ≡ strip_of_words a.rows (cols a) first (eliminate_column p inverse a.rows (first + j) (strip_state first a v)).words
+none_matrix p inverse first j a v shaped h none = strip_stays first a shaped ∙ ap (λ s. strip_of_words a.rows (cols a) first s.words) (sym (column_none p inverse first j a v h none))
 
 pub none_list : (p : ℕ) (inverse : ℕ → ℕ) (first j : ℕ) (a : Matrix) (v : List ℕ) → first + j < a.rows → ((i : ℕ) → first + j ≤ i → i < a.rows → entry a i j ≡ 0) → v ++ ((first + j + 1) ∷ []) ≡ (eliminate_column p inverse a.rows (first + j) (strip_state first a v)).pivots
 none_list p inverse first j a v h none = ap (λ s. s.pivots) (sym (column_none p inverse first j a v h none))
 
-pub some_matrix : (p : ℕ) (inverse : ℕ → ℕ) (first j r n : ℕ) (a b row u : Matrix) (v : List ℕ) → first + j < a.rows → j < cols a → n ≡ cols a → b ≡ with_rows_swapped a (first + j) r → row ≡ part_of b (record { r0 = first + j; r1 = first + j + 1; c0 = 0; c1 = n }) → u ≡ with_eliminated p inverse b (nat_le (first + j + 1)) j row (whole_part row) → first + j ≤ r → r < a.rows → entry a r j ≢ 0 → ((i : ℕ) → first + j ≤ i → i < r → entry a i j ≡ 0) → u ≡ strip_of a.rows (cols a) first (eliminate_column p inverse a.rows (first + j) (strip_state first a v)).words
+pub some_matrix : (p : ℕ) (inverse : ℕ → ℕ) (first j r n : ℕ) (a b row u : Matrix) (v : List ℕ) → first + j < a.rows → j < cols a → n ≡ cols a → b ≡ with_rows_swapped a (first + j) r → row ≡ part_of b (record { r0 = first + j; r1 = first + j + 1; c0 = 0; c1 = n }) → u ≡ with_eliminated p inverse b (nat_le (first + j + 1)) j row (whole_part row) → first + j ≤ r → r < a.rows → entry a r j ≢ 0 → ((i : ℕ) → first + j ≤ i → i < r → entry a i j ≡ 0) → u ≡ strip_of_words a.rows (cols a) first (eliminate_column p inverse a.rows (first + j) (strip_state first a v)).words
 some_matrix p inverse first j r n a b row u v hd hj en eb erow eu h1 h2 nonzero before =
     strip_step p inverse a b row u first j r hd hj eb (erow ∙ ap (λ n. part_of b (record { r0 = first + j; r1 = first + j + 1; c0 = 0; c1 = n })) en) eu (λ i hi. swapped-below (first + j) r i a.rows hd h2 hi)
-    ∙ ap (λ s. strip_of a.rows (cols a) first s.words) (sym (column_some p inverse first j r a v h1 h2 nonzero before))
+    ∙ ap (λ s. strip_of_words a.rows (cols a) first s.words) (sym (column_some p inverse first j r a v h1 h2 nonzero before))
 
 pub some_list : (p : ℕ) (inverse : ℕ → ℕ) (first j r : ℕ) (a : Matrix) (v : List ℕ) → first + j ≤ r → r < a.rows → entry a r j ≢ 0 → ((i : ℕ) → first + j ≤ i → i < r → entry a i j ≡ 0) → v ++ ((r + 1) ∷ []) ≡ (eliminate_column p inverse a.rows (first + j) (strip_state first a v)).pivots
 some_list p inverse first j r a v h1 h2 nonzero before = ap (λ s. s.pivots) (sym (column_some p inverse first j r a v h1 h2 nonzero before))

@@ -22,8 +22,8 @@ abbrev pub strip_words : ℕ → Matrix → ℕ → ℕ → ℕ
 strip_words first a i k = entry a i (k - first)
 
 -- the strip of m rows and n columns from column `first` on
-abbrev pub strip_of : ℕ → ℕ → ℕ → (ℕ → ℕ → ℕ) → Matrix
-strip_of m n first f = tabulate m n (λ i k. f i (first + k))
+abbrev pub strip_of_words : ℕ → ℕ → ℕ → (ℕ → ℕ → ℕ) → Matrix
+strip_of_words m n first f = tabulate m n (λ i k. f i (first + k))
 
 -- the strip as a state of the elimination, after the pivots v
 abbrev pub strip_state : ℕ → Matrix → List ℕ → Eliminated

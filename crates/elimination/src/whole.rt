@@ -5,7 +5,7 @@ ghost use Rattle.field_core.specs.Residue.{inverse};
 ghost use Rattle.run_data.specs.Matrix.{Matrix, cols, entry};
 ghost use Rattle.local_blas.specs.Kernels.{AreWords};
 ghost use Rattle.serial_model.specs.Elimination.{eliminate_column, eliminate_columns};
-ghost use Rattle.elimination.specs.Whole.{AreRows, with_rows_exchanged, with_carried, strip_of, strip_state};
+ghost use Rattle.elimination.specs.Whole.{AreRows, with_rows_exchanged, with_carried, strip_of_words, strip_state};
 
 use field_core::Field;
 use local_blas::{eliminate, first_nonzero, mul_add, solve_lower, swap_rows};
@@ -96,7 +96,7 @@ pub fn eliminate_strip_column<K: Field>(
     requires inside { first + j < a.old.rows }
     requires column { j < cols a.old }
     requires words { AreWords K.MODULUS a.old }
-    ensures matrix { IfOk result (λ _. a.new ≡ strip_of a.old.rows (cols a.old) first (eliminate_column K.MODULUS (inverse K.MODULUS) a.old.rows (first + j) (strip_state first a.old pivots.old.items)).words) }
+    ensures matrix { IfOk result (λ _. a.new ≡ strip_of_words a.old.rows (cols a.old) first (eliminate_column K.MODULUS (inverse K.MODULUS) a.old.rows (first + j) (strip_state first a.old pivots.old.items)).words) }
     ensures list { IfOk result (λ _. pivots.new.items ≡ (eliminate_column K.MODULUS (inverse K.MODULUS) a.old.rows (first + j) (strip_state first a.old pivots.old.items)).pivots) }
 {
     let _shaped = a.rows();
@@ -137,7 +137,7 @@ pub fn eliminate_strip<K: Field>(
     requires columns { n ≤ cols a.old }
     requires count { length pivots.old.items ≡ first }
     requires words { AreWords K.MODULUS a.old }
-    ensures matrix { IfOk result (λ _. a.new ≡ strip_of a.old.rows (cols a.old) first (eliminate_columns K.MODULUS (inverse K.MODULUS) a.old.rows first n (strip_state first a.old pivots.old.items)).words) }
+    ensures matrix { IfOk result (λ _. a.new ≡ strip_of_words a.old.rows (cols a.old) first (eliminate_columns K.MODULUS (inverse K.MODULUS) a.old.rows first n (strip_state first a.old pivots.old.items)).words) }
     ensures list { IfOk result (λ _. pivots.new.items ≡ (eliminate_columns K.MODULUS (inverse K.MODULUS) a.old.rows first n (strip_state first a.old pivots.old.items)).pivots) }
 {
     let _shaped = a.rows();

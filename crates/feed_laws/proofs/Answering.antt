@@ -6,7 +6,8 @@ use Rattle.std.proofs.lemmas.Nat.{mul-le}
 use Rattle.array_desc.proofs.GroupLaws.{groups-reached}
 use Rattle.run_data.specs.Matrix.{Matrix}
 use Rattle.rank_machine.specs.declared.slot.Tile.{Tile}
-use Rattle.rank_machine.specs.Setting.{Layout, group_count}
+use Rattle.rank_machine.specs.declared.layout.Layout.{Layout}
+use Rattle.rank_machine.specs.Setting.{group_count}
 use Rattle.script_lines.specs.Layouts.{IsLayout}
 use Rattle.phases.specs.declared.phase.Next.{Next}
 use Rattle.phases.specs.declared.phase.Next.TheVariants as n

@@ -21,7 +21,8 @@ use Rattle.rank_machine.specs.declared.slot.Tile.TheVariants.{Words, Index}
 use Rattle.rank_machine.specs.declared.slot.Piece.TheVariants.{Whole}
 use Rattle.rank_machine.specs.declared.kernel.Cut.TheVariants as cut
 use Rattle.rank_machine.specs.declared.kernel.Kernel.TheVariants as k
-use Rattle.rank_machine.specs.Setting.{Setting, Layout, group_count, strip_rows, strip_of}
+use Rattle.rank_machine.specs.declared.layout.Layout.{Layout}
+use Rattle.rank_machine.specs.Setting.{Setting, group_count, strip_rows, strip_of}
 use Rattle.rank_machine.specs.State.{State, same_kind, same_slot}
 use Rattle.rank_machine.specs.Effect.{words_of, cut_out, made_by, reaches}
 use Rattle.rank_machine.specs.Held.{size_of}

@@ -14,7 +14,8 @@ use Rattle.rank_machine.specs.declared.slot.SlotKind.TheVariants.{Data, Code}
 use Rattle.rank_machine.specs.declared.slot.Tile.TheVariants.{Words}
 use Rattle.rank_machine.specs.declared.mark.Mark.{Mark}
 use Rattle.rank_machine.specs.declared.record.Rec.TheVariants as r
-use Rattle.rank_machine.specs.Setting.{Setting, Layout, ranks, grid_of_rank, job, layout, is_matrix, factored, group_count, strip_of}
+use Rattle.rank_machine.specs.declared.layout.Layout.{Layout}
+use Rattle.rank_machine.specs.Setting.{Setting, ranks, grid_of_rank, job, layout, is_matrix, factored, group_count, strip_of}
 use Rattle.rank_machine.specs.State.{State, same_kind, same_slot, end_mark}
 use Rattle.rank_machine.specs.Effect.{words_of, strip, after, is_live, is_live_matrix, is_dropped, has_ended, current}
 use Rattle.rank_machine.specs.Legal.{IsFeed, some_lost, may_go, is_path}
@@ -40,7 +41,7 @@ use Rattle.phase_frames.specs.Touching.{IsCapped}
 use Rattle.run_laws.proofs.LawFrame.{CodeLaw-next_mark}
 use Rattle.phase_frames.proofs.Touched.{elsewhere, untouched, may_put-stays}
 use Rattle.phase_frames.proofs.Capped.{capped_through, capped_feed}
-use Rattle.feed_laws.specs.Feeding.{FeedTask, MayFeed, HasFed, IsFeedable, FeedStands, feeds, rounds, number_of, feed_at, code_of, answer_of, feed_plan, feed_progress, feed_words, feed_cap, is_own, strip_words}
+use Rattle.feed_laws.specs.Feeding.{FeedTask, MayFeed, HasFed, IsFeedable, FeedStands, feeds, rounds, strip_number, feed_at, code_of, answer_of, feed_plan, feed_progress, feed_words, feed_cap, is_own, strip_words}
 use Rattle.feed_laws.specs.Begins.{is_current, not_live}
 use Rattle.feed_laws.proofs.Numbers.{number_below, group_at, row_at, col_at, number_back, place_back, records_few}
 use Rattle.feed_laws.proofs.Caps.{adds_words, strip_size, own_data, own_room, is_coding, encode_writes, coding_own, encode_caps}
@@ -169,14 +170,14 @@ module _ (s : Setting) (base : State) (t : FeedTask) (h : MayFeed s base t) (res
       other_kind a x e = and_right (a == rank) (same_slot x slot) e
 
       -- another place has another slot
-      other_place : (g2 r2 c2 : ℕ) → r2 < d.grid.p → c2 < d.grid.q → number_of d g2 r2 c2 ≢ calls → here (rank_at d.grid r2 c2) (slot_at Data t.line g2) ≡ false
+      other_place : (g2 r2 c2 : ℕ) → r2 < d.grid.p → c2 < d.grid.q → strip_number d g2 r2 c2 ≢ calls → here (rank_at d.grid r2 c2) (slot_at Data t.line g2) ≡ false
       other_place g2 r2 c2 lr lc ne =
           false_from_ne_true (here (rank_at d.grid r2 c2) (slot_at Data t.line g2))
           (λ e.
           let z = and_parts (rank_at d.grid r2 c2 == rank) (same_slot (slot_at Data t.line g2) slot) e in
           let p = same_place d.grid r2 c2 row col (wide c2 lc) (wide col hc) (eqb-true (rank_at d.grid r2 c2) rank z.0) in
           let q = eqb-true g2 group (and_parts (same_kind Data Data && (t.line == t.line)) (g2 == group) z.1).1 in
-          ne ((λ i. number_of d (q i) (p.0 i) (p.1 i)) ∙ number_back d calls))
+          ne ((λ i. strip_number d (q i) (p.0 i) (p.1 i)) ∙ number_back d calls))
 
       capped : IsCapped (feed_cap t base) next.tiles
       capped =
@@ -194,11 +195,11 @@ module _ (s : Setting) (base : State) (t : FeedTask) (h : MayFeed s base t) (res
         links = stands.links;
         fed = λ g2 r2 c2 lg lr lc less.
             ⊎_elim
-            (λ (e : number_of d g2 r2 c2 ≡ calls).
+            (λ (e : strip_number d g2 r2 c2 ≡ calls).
             let p = place_back d g2 r2 c2 calls lr lc e in
             subst (λ (x : ℕ × ℕ × ℕ). next.tiles (rank_at d.grid x.1 x.2) (slot_at Data t.line x.0) ≡ Some (Words (strip_of d t.file (rank_at d.grid x.1 x.2) x.0))) (λ i. (p.0 i, p.1 i, p.2 i)) tile_now)
-            (λ (e : number_of d g2 r2 c2 ≡ calls → ⊥). kept (rank_at d.grid r2 c2) (slot_at Data t.line g2) (other_place g2 r2 c2 lr lc e) ∙ stands.fed g2 r2 c2 lg lr lc (grind (arith, less, e)))
-            (cases_eq (number_of d g2 r2 c2) calls);
+            (λ (e : strip_number d g2 r2 c2 ≡ calls → ⊥). kept (rank_at d.grid r2 c2) (slot_at Data t.line g2) (other_place g2 r2 c2 lr lc e) ∙ stands.fed g2 r2 c2 lg lr lc (grind (arith, less, e)))
+            (cases_eq (strip_number d g2 r2 c2) calls);
         unfed = λ g2 r2 c2 lg lr lc le. kept (rank_at d.grid r2 c2) (slot_at Data t.line g2) (other_place g2 r2 c2 lr lc (λ e. omega (arith, e, le))) ∙ stands.unfed g2 r2 c2 lg lr lc (omega (arith, le));
         coded = λ g2 lg less. absurd (omega (arith, less, lt));
         uncoded = λ g2 r2 c2 lg lr lc le.

@@ -3,11 +3,12 @@ use Rattle.std.proofs.Common.{◌≡◌, ◌+◌, ◌-◌, ◌*◌, ◌/◌, ◌
 use Rattle.std.specs.Prelude.{if◌then◌else◌, min}
 use Rattle.std.proofs.lemmas.Bool.{cases_Bool, eqb-true}
 use Rattle.std.proofs.lemmas.Nat.{mul-add-lt, div-mul-add, mod-mul-add, div-add-mod', div_below, mod_below, mul-le}
-use Rattle.rank_machine.specs.Setting.{Layout, group_count}
-use Rattle.feed_laws.specs.Feeding.{feeds, rounds, number_of, steps_of_round, records_after, feed_records}
+use Rattle.rank_machine.specs.declared.layout.Layout.{Layout}
+use Rattle.rank_machine.specs.Setting.{group_count}
+use Rattle.feed_laws.specs.Feeding.{feeds, rounds, strip_number, steps_of_round, records_after, feed_records}
 
 -- ---- places
-pub number_below : (d : Layout) (group row col : ℕ) → group < group_count d → row < d.grid.p → col < d.grid.q → number_of d group row col < feeds d
+pub number_below : (d : Layout) (group row col : ℕ) → group < group_count d → row < d.grid.p → col < d.grid.q → strip_number d group row col < feeds d
 number_below d group row col hg hr hc =
     let a = mul-add-lt group d.grid.p row (group_count d) hg hr in
     let b = mul-add-lt (group * d.grid.p + row) d.grid.q col (d.grid.p * group_count d) a hc in
@@ -24,11 +25,11 @@ pub col_at : (d : Layout) (i : ℕ) → 0 < d.grid.q → i % d.grid.q < d.grid.q
 col_at d i hq = mod_below i d.grid.q hq
 
 -- the number of the place of a number
-pub number_back : (d : Layout) (i : ℕ) → number_of d (i / d.grid.q / d.grid.p) (i / d.grid.q % d.grid.p) (i % d.grid.q) ≡ i
+pub number_back : (d : Layout) (i : ℕ) → strip_number d (i / d.grid.q / d.grid.p) (i / d.grid.q % d.grid.p) (i % d.grid.q) ≡ i
 number_back d i = ap (λ n. n * d.grid.q + i % d.grid.q) (div-add-mod' (i / d.grid.q) d.grid.p) ∙ div-add-mod' i d.grid.q
 
 -- the place of the number of a place
-pub place_back : (d : Layout) (group row col i : ℕ) → row < d.grid.p → col < d.grid.q → number_of d group row col ≡ i → (i / d.grid.q / d.grid.p ≡ group) × (i / d.grid.q % d.grid.p ≡ row) × (i % d.grid.q ≡ col)
+pub place_back : (d : Layout) (group row col i : ℕ) → row < d.grid.p → col < d.grid.q → strip_number d group row col ≡ i → (i / d.grid.q / d.grid.p ≡ group) × (i / d.grid.q % d.grid.p ≡ row) × (i % d.grid.q ≡ col)
 place_back d group row col i hr hc e =
     let a : i / d.grid.q ≡ group * d.grid.p + row = ap (λ n. n / d.grid.q) (sym e) ∙ div-mul-add (group * d.grid.p + row) d.grid.q col hc in (
       ap (λ n. n / d.grid.p) a ∙ div-mul-add group d.grid.p row hr,

@@ -6,7 +6,8 @@ use Rattle.std.proofs.lemmas.Nat.{mul-le}
 use Rattle.array_desc.proofs.CountLaws.{numroc-most}
 use Rattle.blacs_grid.specs.Places.{row_of, is_member, is_data_rank, is_code_rank}
 use Rattle.blacs_grid.proofs.PlaceLaws.{width-pos, row_of-lt, is_data_rank-member}
-use Rattle.rank_machine.specs.Setting.{Setting, Layout, Job, grid_of_rank, layout, group_count, strip_rows, is_matrix, factored}
+use Rattle.rank_machine.specs.declared.layout.Layout.{Layout}
+use Rattle.rank_machine.specs.Setting.{Setting, Job, grid_of_rank, layout, group_count, strip_rows, is_matrix, factored}
 use Rattle.rank_machine.specs.State.{State, end_mark}
 use Rattle.rank_machine.specs.Effect.{is_live_matrix, is_live_list, is_dropped, has_ended, current}
 use Rattle.rank_machine.specs.Held.{is_on, cells_of, tile_of_jobs, pivots_of_jobs, counts_matrix, most_words}

@@ -5,7 +5,8 @@ use Rattle.blacs_grid.specs.Places.{rank_at, row_of, is_data_rank, is_code_rank}
 use Rattle.rank_machine.specs.declared.slot.Slot.{Slot}
 use Rattle.rank_machine.specs.declared.slot.SlotKind.TheVariants.{Data, Code}
 use Rattle.rank_machine.specs.declared.slot.Tile.TheVariants.{Words}
-use Rattle.rank_machine.specs.Setting.{Setting, Layout, anywhere, job, layout, is_matrix, factored, group_count, strip_rows, strip_of}
+use Rattle.rank_machine.specs.declared.layout.Layout.{Layout}
+use Rattle.rank_machine.specs.Setting.{Setting, anywhere, job, layout, is_matrix, factored, group_count, strip_rows, strip_of}
 use Rattle.rank_machine.specs.State.{State, Took, same_kind, same_slot, end_mark}
 use Rattle.rank_machine.specs.Effect.{is_live, is_dropped}
 use Rattle.rank_machine.specs.Held.{size_of}
@@ -43,8 +44,8 @@ abbrev pub rounds : Layout → ℕ
 rounds d = if d.grid.f == 0 then 0 else group_count d
 
 -- the number of a strip, by rising groups and in each the data ranks row by row
-abbrev pub number_of : Layout → ℕ → ℕ → ℕ → ℕ
-number_of d group row col = (group * d.grid.p + row) * d.grid.q + col
+abbrev pub strip_number : Layout → ℕ → ℕ → ℕ → ℕ
+strip_number d group row col = (group * d.grid.p + row) * d.grid.q + col
 
 -- the strip of a number
 abbrev pub feed_at : {K : Type 0} → Layout → Matrix → ℕ → ℕ → Next K
@@ -165,9 +166,9 @@ pub record FeedStands (t : FeedTask) (calls : ℕ) (s : Setting) (base now : Sta
   pub lost : now.lost ≡ base.lost
   pub links : (from to : ℕ) → now.links from to ≡ []
   -- the first strips are there, the others not yet
-  pub fed : (group row col : ℕ) → group < group_count t.layout → row < t.layout.grid.p → col < t.layout.grid.q → number_of t.layout group row col < calls
+  pub fed : (group row col : ℕ) → group < group_count t.layout → row < t.layout.grid.p → col < t.layout.grid.q → strip_number t.layout group row col < calls
       → now.tiles (rank_at t.layout.grid row col) (slot_at Data t.line group) ≡ Some (Words (strip_of t.layout t.file (rank_at t.layout.grid row col) group))
-  pub unfed : (group row col : ℕ) → group < group_count t.layout → row < t.layout.grid.p → col < t.layout.grid.q → calls ≤ number_of t.layout group row col
+  pub unfed : (group row col : ℕ) → group < group_count t.layout → row < t.layout.grid.p → col < t.layout.grid.q → calls ≤ strip_number t.layout group row col
       → now.tiles (rank_at t.layout.grid row col) (slot_at Data t.line group) ≡ None
   -- the first groups are coded, and the code strips of the others may be made
   pub coded : (group : ℕ) → group < group_count t.layout → feeds t.layout + group < calls → HasCodeStrips s now t.layout t.line group

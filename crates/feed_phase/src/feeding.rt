@@ -28,14 +28,13 @@ pub struct FeedPhase<'a> {
 }
 
 impl<'a> Model for FeedPhase<'a> {
-    ghost use Rattle.script_lines.specs.Layouts.{seen};
     ghost use Rattle.feed_laws.specs.Feeding.{FeedView, IsFeedable};
 
     ghost Value = { FeedView };
 
-    ghost view = { λ x. record { file = x.file.now; layout = seen x.layout; line = x.line; calls = x.calls } };
+    ghost view = { λ x. record { file = x.file.now; layout = x.layout; line = x.line; calls = x.calls } };
 
-    ghost invariant = { λ x. IsFeedable (seen x.layout) x.file.now };
+    ghost invariant = { λ x. IsFeedable x.layout x.file.now };
 }
 
 impl<'a> FeedPhase<'a> {

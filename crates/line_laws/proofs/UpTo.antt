@@ -5,9 +5,9 @@ use Rattle.std.proofs.lemmas.List.{append_assoc}
 use Rattle.std.proofs.lemmas.Bool.{leb-true, le-leb, eqb-true, eq-eqb, eqb-false, true≢false, cases_Bool, false_from_ne_true}
 use Rattle.run_data.specs.Matrix.{Matrix}
 use Rattle.run_data.specs.declared.command.Command.{Command}
-use Rattle.run_data.specs.Script.{Numbered, commands_from, commands_of, command_at}
-use Rattle.serial_model.specs.Serial.{Values, values_after, text_added, text_from, up_to}
-use Rattle.line_laws.specs.Lines.{values_of}
+use Rattle.run_data.specs.Script.{Numbered, commands_from, command_at, modulus_of}
+use Rattle.serial_model.specs.Serial.{Values, text_from, up_to}
+use Rattle.line_laws.specs.Lines.{values_after, values_of, text_added}
 
 -- the command of a line, if there is one
 abbrev pub one_of : ℕ → Option Command → List Numbered
@@ -81,12 +81,15 @@ up_to-next n k (Some x ∷ lines) =
     (cases_Bool (nat_le n k))
 
 -- ---- what commands do, one after another
-pub text-append : (files : ℕ → Matrix) (xs ys : List Numbered) (values : Values) → text_from files (xs ++ ys) values ≡ text_from files xs values ++ text_from files ys (values_of files xs values)
-text-append files [] ys values = refl
-text-append files (n ∷ xs) ys values =
-    ap (λ ws. text_added n.command values ++ ws) (text-append files xs ys (values_after files n.line n.command values))
-    ∙ sym (append_assoc (text_added n.command values) (text_from files xs (values_after files n.line n.command values)) (text_from files ys (values_of files xs (values_after files n.line n.command values))))
+pub text-append : (files : ℕ → Matrix) (script xs ys : List Numbered) (values : Values)
+    → text_from files script (xs ++ ys) values ≡ text_from files script xs values ++ text_from files script ys (values_of (modulus_of script) files xs values)
+text-append files script [] ys values = refl
+text-append files script (n ∷ xs) ys values =
+    let next : Values = values_after (modulus_of script) files n.line n.command values in
+    let first : List ℕ = text_added script n.line n.command values in
+    ap (λ ws. first ++ ws) (text-append files script xs ys next)
+    ∙ sym (append_assoc first (text_from files script xs next) (text_from files script ys (values_of (modulus_of script) files xs next)))
 
-pub values-append : (files : ℕ → Matrix) (xs ys : List Numbered) (values : Values) → values_of files (xs ++ ys) values ≡ values_of files ys (values_of files xs values)
-values-append files [] ys values = refl
-values-append files (n ∷ xs) ys values = values-append files xs ys (values_after files n.line n.command values)
+pub values-append : (p : ℕ) (files : ℕ → Matrix) (xs ys : List Numbered) (values : Values) → values_of p files (xs ++ ys) values ≡ values_of p files ys (values_of p files xs values)
+values-append p files [] ys values = refl
+values-append p files (n ∷ xs) ys values = values-append p files xs ys (values_after p files n.line n.command values)

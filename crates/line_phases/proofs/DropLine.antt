@@ -5,7 +5,7 @@ use Rattle.std.proofs.lemmas.List.Elements.{All-nil}
 use Rattle.std.proofs.lemmas.Bool.{le-leb}
 use Rattle.run_data.specs.declared.command.Command.{Command}
 use Rattle.run_data.specs.declared.command.Command.TheVariants as c
-use Rattle.run_data.specs.Script.{commands_of, command_at, maker}
+use Rattle.run_data.specs.Script.{commands_of, command_at, maker, modulus_of}
 use Rattle.rank_machine.specs.declared.mark.Mark.{Mark}
 use Rattle.rank_machine.specs.Setting.{Setting, Job, is_matrix, factored}
 use Rattle.rank_machine.specs.Scripts.{Matrices, file_of, setting_of}
@@ -15,7 +15,8 @@ use Rattle.rank_machine.specs.CodeLaw.{CodeLaw}
 use Rattle.rank_machine.specs.Marks.{follows}
 use Rattle.script_bounds.specs.Accepted.{KeepsRules}
 use Rattle.script_bounds.specs.Bounds.{phase_steps, recovery_steps}
-use Rattle.serial_model.specs.Serial.{Values, values_after}
+use Rattle.serial_model.specs.Serial.{Values}
+use Rattle.line_laws.specs.Lines.{values_after}
 use Rattle.block_world.specs.World.{WorldView, setting_in, state_of}
 use Rattle.run_laws.specs.LastCommit.{IsScripted}
 use Rattle.run_laws.proofs.Scripts.{script_rising}
@@ -61,7 +62,7 @@ module _ (script : List (Option Command)) (files : Matrices) (line : ℕ) (w : W
     before_it = values_at (file_of files) (commands_of script) line
 
     abbrev after_it : Values
-    after_it = values_after (file_of files) (suc line) (c.Discard name) before_it
+    after_it = values_after (modulus_of (commands_of script)) (file_of files) (suc line) (c.Discard name) before_it
 
     keeps : (at : ℕ) → KeepsTiles s mark (state_of w) (state_of new) at
     keeps at rank slot is live = (λ i. driven.effect.1 i rank slot) ∙ ap (λ b. if b then (state_of w).tiles rank slot else None) (subst (λ t. is_live t mark rank slot ≡ true) (sym same) live)

@@ -6,7 +6,7 @@ use Rattle.field_core.specs.Residue.{inverse}
 use Rattle.run_data.specs.Matrix.{IsShaped}
 use Rattle.run_data.specs.declared.command.Command.{Command}
 use Rattle.run_data.specs.declared.command.Command.TheVariants as c
-use Rattle.run_data.specs.Script.{commands_of, command_at, name_made, maker}
+use Rattle.run_data.specs.Script.{commands_of, command_at, name_made, maker, modulus_of}
 use Rattle.rank_machine.specs.Setting.{Setting, Job, layout, is_matrix}
 use Rattle.rank_machine.specs.Scripts.{Matrices, file_of, setting_of}
 use Rattle.rank_machine.specs.State.{State, Took, end_mark}
@@ -40,10 +40,10 @@ makes_one : (script : List (Option Command)) (files : Matrices) (line : ℕ) (na
     → is_matrix (setting_of script files) line ≡ true
 makes_one script files line name grid m n mb nb rsrc csrc file e = ap (λ (j : Job). is_some j.makes) (job-is script files line (c.Matrix name grid m n mb nb rsrc csrc file) e)
 
-may_in : (script : List (Option Command)) (files : Matrices) (line : ℕ) (st : State) (name grid : List ℕ) (m n mb nb rsrc csrc : ℕ) (file : List ℕ) → KeepsRules script → IsSound 65537 (setting_of script files)
+may_in : (script : List (Option Command)) (files : Matrices) (line : ℕ) (st : State) (name grid : List ℕ) (m n mb nb rsrc csrc : ℕ) (file : List ℕ) → KeepsRules script → IsSound (modulus_of (commands_of script)) (setting_of script files)
     → command_at (commands_of script) (suc line) ≡ Some (c.Matrix name grid m n mb nb rsrc csrc file) → IsTrue (follows (setting_of script files) st.mark (end_mark (suc line)))
     → HasShape (layout (setting_of script files) (suc line)) (file_of files (suc line))
-    → MayFeed (setting_of script files) st (feed_task (inverse 65537) (file_of files (suc line)) (layout (setting_of script files) (suc line)) (suc line))
+    → MayFeed (setting_of script files) st (feed_task (inverse (modulus_of (commands_of script))) (file_of files (suc line)) (layout (setting_of script files) (suc line)) (suc line))
 may_in script files line st name grid m n mb nb rsrc csrc file kept sound e next shape =
     let s : Setting = setting_of script files in
     let made : is_matrix s (suc line) ≡ true = makes_one script files (suc line) name grid m n mb nb rsrc csrc file e in
@@ -54,24 +54,24 @@ may_in script files line st name grid m n mb nb rsrc csrc file kept sound e next
       lies = refl;
       file = refl;
       inverses = refl;
-      some_words = omega (arith, sound.modulus);
+      some_words = omega (arith, sound.large);
       some_messages = omega (arith, sound.some_messages);
       feedable = record { laid_out = sound.layouts (suc line) made; whole = shape };
-      of = (matrix-lies script files 65537 (suc line) kept sound made).of_run;
+      of = (matrix-lies script files (modulus_of (commands_of script)) (suc line) kept sound made).of_run;
       plain = ap (λ (j : Job). j.factors) is;
       goes = ap (λ (j : Job). j.path) is;
       undropped = none-dropped script files (end_mark (suc line)) kept (omega arith);
-      scripted = IsScripted-sound 65537 s sound (no-line_zero script files);
+      scripted = IsScripted-sound (modulus_of (commands_of script)) s sound (no-line_zero script files);
       rising = script_rising script files;
     }
 
 -- where a `matrix` line comes next, and its file has the line's shape, its matrix may be fed
 pub matrix-may : (script : List (Option Command)) (files : Matrices) (line : ℕ) (w : WorldView) (out : List ℕ) (name grid : List ℕ) (m n mb nb rsrc csrc : ℕ) (file : List ℕ) → HasRun script files line w out → KeepsRules script
-    → IsSound 65537 (setting_of script files) → command_at (commands_of script) (suc line) ≡ Some (c.Matrix name grid m n mb nb rsrc csrc file) → HasShape (layout (setting_in w) (suc line)) (file_of files (suc line))
-    → MayFeed (setting_in w) (state_of w) (feed_task (inverse 65537) (file_of files (suc line)) (layout (setting_in w) (suc line)) (suc line))
+    → IsSound (modulus_of (commands_of script)) (setting_of script files) → command_at (commands_of script) (suc line) ≡ Some (c.Matrix name grid m n mb nb rsrc csrc file) → HasShape (layout (setting_in w) (suc line)) (file_of files (suc line))
+    → MayFeed (setting_in w) (state_of w) (feed_task (inverse (modulus_of (commands_of script))) (file_of files (suc line)) (layout (setting_in w) (suc line)) (suc line))
 matrix-may script files line w out name grid m n mb nb rsrc csrc file h kept sound e shape =
     let same : setting_in w ≡ setting_of script files = setting_is w script files h.script_is h.files_are in
-    subst (λ s. MayFeed s (state_of w) (feed_task (inverse 65537) (file_of files (suc line)) (layout s (suc line)) (suc line))) (sym same)
+    subst (λ s. MayFeed s (state_of w) (feed_task (inverse (modulus_of (commands_of script))) (file_of files (suc line)) (layout s (suc line)) (suc line))) (sym same)
     (may_in script files line (state_of w) name grid m n mb nb rsrc csrc file kept sound e (line-follows script files line w out (c.Matrix name grid m n mb nb rsrc csrc file) h e refl)
     (subst (λ s. HasShape (layout s (suc line)) (file_of files (suc line))) same shape))
 
@@ -79,7 +79,7 @@ matrix-may script files line w out name grid m n mb nb rsrc csrc file h kept sou
 module _ (script : List (Option Command)) (files : Matrices) (kept : KeepsRules script) (scripted_so : IsScripted (setting_of script files)) (line : ℕ) (name grid : List ℕ) (m n mb nb rsrc csrc : ℕ) (file : List ℕ)
     (there : command_at (commands_of script) (suc line) ≡ Some (c.Matrix name grid m n mb nb rsrc csrc file)) (old new : State) (values : Values) (takes : List Took)
     (shaped : IsShaped (file_of files (suc line))) (shape : HasShape (layout (setting_of script files) (suc line)) (file_of files (suc line)))
-    (fed : HasFed (setting_of script files) old (feed_task (inverse 65537) (file_of files (suc line)) (layout (setting_of script files) (suc line)) (suc line)) takes new) where
+    (fed : HasFed (setting_of script files) old (feed_task (inverse (modulus_of (commands_of script))) (file_of files (suc line)) (layout (setting_of script files) (suc line)) (suc line)) takes new) where
   -- the name of the line's own command
   own_name : (other : List ℕ) → Names (commands_of script) (suc line) other → name ≡ other
   own_name other named = same_Some name other (ap name_made (same_Some (c.Matrix name grid m n mb nb rsrc csrc file) named.0 (sym there ∙ named.1)) ∙ named.2)
@@ -115,9 +115,9 @@ module _ (script : List (Option Command)) (files : Matrices) (kept : KeepsRules 
 
 -- the commit of a phase that fed the matrix ends the line
 pub matrix-ends : (script : List (Option Command)) (files : Matrices) (line : ℕ) (old new : WorldView) (out : List ℕ) (progress : Progress) (name grid : List ℕ) (m n mb nb rsrc csrc : ℕ) (file : List ℕ)
-    → HasRun script files line old out → KeepsRules script → IsSound 65537 (setting_of script files) → command_at (commands_of script) (suc line) ≡ Some (c.Matrix name grid m n mb nb rsrc csrc file)
+    → HasRun script files line old out → KeepsRules script → IsSound (modulus_of (commands_of script)) (setting_of script files) → command_at (commands_of script) (suc line) ≡ Some (c.Matrix name grid m n mb nb rsrc csrc file)
     → IsShaped (file_of files (suc line)) → HasShape (layout (setting_in old) (suc line)) (file_of files (suc line))
-    → IsDriven (feed_plan (feed_task (inverse 65537) (file_of files (suc line)) (layout (setting_in old) (suc line)) (suc line))) progress old new
+    → IsDriven (feed_plan (feed_task (inverse (modulus_of (commands_of script))) (file_of files (suc line)) (layout (setting_in old) (suc line)) (suc line))) progress old new
     → KeepsGoing old new → KeepsShort (phase_steps (commands_of script)) old new → KeepsHealing (recovery_steps (commands_of script)) old new → KeepsHolding old new
     → CostsAtMost (phase_steps (commands_of script)) (recovery_steps (commands_of script)) old new (feed_records (layout (setting_in old) (suc line)))
     → EndsLine script files line old new (c.Matrix name grid m n mb nb rsrc csrc file) []
@@ -125,11 +125,11 @@ matrix-ends script files line old new out progress name grid m n mb nb rsrc csrc
     let cs = commands_of script in
     let same : setting_in old ≡ setting_of script files = setting_is old script files h.script_is h.files_are in
     let next : IsTrue (follows (setting_of script files) (state_of old).mark (end_mark (suc line))) = line-follows script files line old out (c.Matrix name grid m n mb nb rsrc csrc file) h e refl in
-    let fed : HasFed (setting_of script files) (state_of old) (feed_task (inverse 65537) (file_of files (suc line)) (layout (setting_of script files) (suc line)) (suc line)) progress.takes (state_of new) =
-    subst (λ s. HasFed s (state_of old) (feed_task (inverse 65537) (file_of files (suc line)) (layout s (suc line)) (suc line)) progress.takes (state_of new)) same driven.effect in
+    let fed : HasFed (setting_of script files) (state_of old) (feed_task (inverse (modulus_of (commands_of script))) (file_of files (suc line)) (layout (setting_of script files) (suc line)) (suc line)) progress.takes (state_of new) =
+    subst (λ s. HasFed s (state_of old) (feed_task (inverse (modulus_of (commands_of script))) (file_of files (suc line)) (layout s (suc line)) (suc line)) progress.takes (state_of new)) same driven.effect in
     record {
       command = e;
-      plan = feed_plan (feed_task (inverse 65537) (file_of files (suc line)) (layout (setting_in old) (suc line)) (suc line));
+      plan = feed_plan (feed_task (inverse (modulus_of (commands_of script))) (file_of files (suc line)) (layout (setting_in old) (suc line)) (suc line));
       progress = progress;
       mark = refl;
       driven = driven;
@@ -140,7 +140,7 @@ matrix-ends script files line old new out progress name grid m n mb nb rsrc csrc
       held = held;
       costs = costs;
       later = subst (λ ts. AreLater line ts) (sym fed.takes_none) (All-nil (λ (t : Took). line < t.line));
-      stands = fed_stands script files kept (IsScripted-sound 65537 (setting_of script files) sound (no-line_zero script files)) line name grid m n mb nb rsrc csrc file e (state_of old) (state_of new)
+      stands = fed_stands script files kept (IsScripted-sound (modulus_of (commands_of script)) (setting_of script files) sound (no-line_zero script files)) line name grid m n mb nb rsrc csrc file e (state_of old) (state_of new)
           (values_at (file_of files) cs line) progress.takes shaped (subst (λ s. HasShape (layout s (suc line)) (file_of files (suc line))) same shape) fed
           (subst (λ s. StandsFor s cs (state_of old) (values_at (file_of files) cs line)) same h.stands) next driven.mark;
       says = refl;

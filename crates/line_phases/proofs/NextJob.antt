@@ -5,7 +5,7 @@ use Rattle.std.proofs.lemmas.Bool.{false≢true, true≢false, cases_Bool, lt-lt
 use Rattle.std.proofs.lemmas.Option.{same_Some}
 use Rattle.run_data.specs.declared.command.Command.{Command}
 use Rattle.run_data.specs.declared.command.Command.TheVariants as c
-use Rattle.run_data.specs.Script.{Numbered, commands_from, commands_of, command_at, makes_records, maker, is_grid_line, grids_before, number_of, meant, name_in}
+use Rattle.run_data.specs.Script.{Numbered, commands_from, commands_of, command_at, makes_records, maker, is_grid_line, grids_before, operand_number, meant, name_in}
 use Rattle.run_data.proofs.Lines.{command_at-before}
 use Rattle.blacs_grid.specs.declared.Grid.{Grid}
 use Rattle.rank_machine.specs.declared.mark.Mark.{Mark}
@@ -86,7 +86,7 @@ thing cs line name t = by_maker (maker cs line name) refl t
 meant_line : (cs : List Numbered) (line : ℕ) (name : List ℕ) → command_at cs line ≡ Some (c.Discard name) → (there : IsThing cs line name) → line_meant cs line 1 ≡ there.at
 meant_line cs line name e there =
     ap (λ (o : Option Command). unwrap_or (meant cs line (name_in o 1)) 0) e
-    ∙ ap (λ (o : Option ℕ). unwrap_or (number_of cs o) 0) there.maker_is
+    ∙ ap (λ (o : Option ℕ). unwrap_or (operand_number cs o) 0) there.maker_is
     ∙ ap (λ (b : Bool). if b then grids_before cs there.at else there.at) there.no_grid
 
 pub drop-means : (script : List (Option Command)) (line what : ℕ) (name : List ℕ) → KeepsRules script → command_at (commands_of script) line ≡ Some (c.Discard name) → line_meant (commands_of script) line 1 ≡ what

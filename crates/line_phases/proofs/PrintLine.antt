@@ -4,7 +4,7 @@ use Rattle.std.specs.Prelude.{if◌then◌else◌}
 use Rattle.std.proofs.lemmas.Bool.{and_from, lt-ltb, le-leb, leb-true, eq-eqb}
 use Rattle.run_data.specs.declared.command.Command.{Command}
 use Rattle.run_data.specs.declared.command.Command.TheVariants as c
-use Rattle.run_data.specs.Script.{commands_of, command_at}
+use Rattle.run_data.specs.Script.{commands_of, command_at, modulus_of}
 use Rattle.blacs_grid.specs.declared.Scope.TheVariants as scope
 use Rattle.blacs_grid.specs.Places.{members, member, is_data_rank}
 use Rattle.blacs_grid.proofs.PlaceLaws.{is_data_rank-member}
@@ -13,7 +13,8 @@ use Rattle.rank_machine.specs.declared.slot.Slot.{Slot}
 use Rattle.rank_machine.specs.declared.slot.SlotKind.TheVariants.{Data}
 use Rattle.rank_machine.specs.declared.slot.Tile.TheVariants.{Words}
 use Rattle.rank_machine.specs.declared.record.Rec.TheVariants as r
-use Rattle.rank_machine.specs.Setting.{Job, Layout, ranks, job, layout, group_count, strip_of}
+use Rattle.rank_machine.specs.declared.layout.Layout.{Layout}
+use Rattle.rank_machine.specs.Setting.{Job, ranks, job, layout, group_count, strip_of}
 use Rattle.rank_machine.specs.Scripts.{Matrices, file_of, line_meant, setting_of}
 use Rattle.rank_machine.specs.State.{State, Took, end_mark}
 use Rattle.rank_machine.specs.Effect.{current, is_live_matrix, after}
@@ -21,7 +22,8 @@ use Rattle.rank_machine.specs.CodeLaw.{slot_at}
 use Rattle.rank_machine.specs.Legal.{IsTake}
 use Rattle.rank_machine.specs.Marks.{follows}
 use Rattle.rank_machine.specs.Printed.{IsPrinted}
-use Rattle.serial_model.specs.Serial.{value_text, text_added}
+use Rattle.serial_model.specs.Serial.{value_text}
+use Rattle.line_laws.specs.Lines.{text_added}
 use Rattle.dist_matrix.proofs.StripLaws.{IsPrinted-strips}
 use Rattle.script_lines.specs.Layouts.{IsLayout}
 use Rattle.script_lines.specs.Sound.{IsSound}
@@ -51,7 +53,7 @@ use Rattle.line_phases.proofs.PrintSlots.{slots-all, slots-contain}
 use Rattle.line_phases.proofs.PrintedName.{print-job, print-is_job, print-no_matrix, print-factors_none, printed-before, printed-some, printed-is_matrix, printed-is_job, printed-names, printed-live, print-count}
 use Rattle.line_phases.proofs.PrintTakes.{takable-from, takes-later, strip-taken}
 
-module _ (script : List (Option Command)) (files : Matrices) (line : ℕ) (name : List ℕ) (kept : KeepsRules script) (sound : IsSound 65537 (setting_of script files)) (e : command_at (commands_of script) (suc line) ≡ Some (c.Print name)) where
+module _ (script : List (Option Command)) (files : Matrices) (line : ℕ) (name : List ℕ) (kept : KeepsRules script) (sound : IsSound (modulus_of (commands_of script)) (setting_of script files)) (e : command_at (commands_of script) (suc line) ≡ Some (c.Print name)) where
   module _ (st : State) (at_line : IsBefore script files line st) where
     -- the line is the current one, and its end comes next
     is_current : current (setting_of script files) st.mark ≡ suc line
@@ -84,7 +86,7 @@ module _ (script : List (Option Command)) (files : Matrices) (line : ℕ) (name 
         let d : Layout = layout s what in
         let rank : ℕ = member d.grid scope.All i in
         let member_is : IsTrue (is_data_rank d.grid rank) = is_in_scope-member d.grid scope.All i what_layout.grid tt i_in in
-        let lies : LiesOnGrid s what = matrix-lies script files 65537 what kept sound (printed-is_matrix script files (suc line) name e kept) in
+        let lies : LiesOnGrid s what = matrix-lies script files (modulus_of (commands_of script)) what kept sound (printed-is_matrix script files (suc line) name e kept) in
         let prints : (job s (current s st.mark)).prints ≡ what = ap (λ k. (job s k).prints) is_current ∙ ap (λ (j : Job). j.prints) (print-job script files (suc line) name e) in
         record {
           live = at_line.rest.live rank ∙ lt-ltb rank (ranks s) (lies.of_run.ranks rank (is_data_rank-member d.grid rank member_is));
@@ -98,7 +100,7 @@ module _ (script : List (Option Command)) (files : Matrices) (line : ℕ) (name 
         let what = line_meant (commands_of script) (suc line) 1 in
         record {
           follows_last = follows_last;
-          law = law-next s st (suc line) (IsScripted-sound 65537 s sound (no-line_zero script files)) (script_rising script files) follows_last at_line.rest.law (print-no_matrix script files (suc line) name e) (print-factors_none script files (suc line) name e);
+          law = law-next s st (suc line) (IsScripted-sound (modulus_of (commands_of script)) s sound (no-line_zero script files)) (script_rising script files) follows_last at_line.rest.law (print-no_matrix script files (suc line) name e) (print-factors_none script files (suc line) name e);
           takable = takable-from s st (print_slots s what) (slots-all (λ p. IsTake s st p.0 p.1) what (layout s what) may_take_one);
         }
 
@@ -111,7 +113,7 @@ module _ (script : List (Option Command)) (files : Matrices) (line : ℕ) (name 
         (λ rank group names. strip-taken before (suc line) st (print_slots s what) rank what group (Words (strip_of (layout s what) what_stands.matrix rank group))
         (slots-contain what (layout s what) group rank what_layout.grid names.data_rank names.group_in) (what_stands.held rank group names))
 
-    pub print-says : (before : List Took) → IsMatrixText (setting_of script files) (before ++ takes_of (suc line) st (print_slots (setting_of script files) (line_meant (commands_of script) (suc line) 1))) (suc line) name (text_added (c.Print name) (values_at (file_of files) (commands_of script) line))
+    pub print-says : (before : List Took) → IsMatrixText (setting_of script files) (before ++ takes_of (suc line) st (print_slots (setting_of script files) (line_meant (commands_of script) (suc line) 1))) (suc line) name (text_added (commands_of script) (suc line) (c.Print name) (values_at (file_of files) (commands_of script) line))
     print-says before =
         let s = setting_of script files in
         let what = line_meant (commands_of script) (suc line) 1 in
@@ -133,7 +135,7 @@ module _ (script : List (Option Command)) (files : Matrices) (line : ℕ) (name 
           own_matrix = λ other live names. absurd (no-matrix s (end_mark (suc line)) (suc line) (print-no_matrix script files (suc line) name e) live);
           own_list = λ other live names. absurd (no-list s (end_mark (suc line)) (suc line) (print-factors_none script files (suc line) name e) live);
           other_matrices = λ at other ne live names. matrix-stands script files kept (end_mark (suc line)) st new values values at_line.stands follows_last at other ne (keeps at) (λ undropped made. refl) live names;
-          other_lists = λ at other ne live names. list-stands script files kept (end_mark (suc line)) st new values values at_line.stands follows_last at other ne (keeps at) (λ undropped made. refl) (IsScripted-sound 65537 s sound (no-line_zero script files)) live names;
+          other_lists = λ at other ne live names. list-stands script files kept (end_mark (suc line)) st new values values at_line.stands follows_last at other ne (keeps at) (λ undropped made. refl) (IsScripted-sound (modulus_of (commands_of script)) s sound (no-line_zero script files)) live names;
         })
 
   -- ---- before and after a print line
@@ -153,7 +155,7 @@ module _ (script : List (Option Command)) (files : Matrices) (line : ℕ) (name 
       → IsDriven (take_plan (take_task (print_slots (setting_in old) (line_meant (commands_of script) (suc line) 1)) (end_mark (suc line)))) progress old new
       → KeepsGoing old new → KeepsShort (phase_steps (commands_of script)) old new → KeepsHealing (recovery_steps (commands_of script)) old new → KeepsHolding old new
       → CostsAtMost (phase_steps (commands_of script)) (recovery_steps (commands_of script)) old new (length (print_slots (setting_in old) (line_meant (commands_of script) (suc line) 1)) + 1)
-      → EndsLine script files line old new (c.Print name) (text_added (c.Print name) (values_at (file_of files) (commands_of script) line))
+      → EndsLine script files line old new (c.Print name) (text_added (commands_of script) (suc line) (c.Print name) (values_at (file_of files) (commands_of script) line))
   print-ends old new out progress h driven goes short heals held costs =
       let s = setting_of script files in
       let ns = commands_of script in
@@ -176,6 +178,6 @@ module _ (script : List (Option Command)) (files : Matrices) (line : ℕ) (name 
         costs = costs;
         later = subst (λ ts. AreLater line ts) (sym takes) (takes-later line (suc line) (state_of old) (print_slots s what) (omega arith));
         stands = print-stands (state_of old) at_line (state_of new) driven.mark tiles;
-        says = subst (λ ts. IsMatrixText s ((state_of old).committed ++ ts) (suc line) name (text_added (c.Print name) (values_at (file_of files) ns line))) (sym takes) (print-says (state_of old) at_line (state_of old).committed);
+        says = subst (λ ts. IsMatrixText s ((state_of old).committed ++ ts) (suc line) name (text_added ns (suc line) (c.Print name) (values_at (file_of files) ns line))) (sym takes) (print-says (state_of old) at_line (state_of old).committed);
         text_is = refl;
       }

@@ -11,7 +11,8 @@ use Rattle.blacs_grid.specs.Limits.{IsGrid}
 use Rattle.blacs_grid.proofs.ScopeLaws.{number_in-lt, member-number_in}
 use Rattle.rank_machine.specs.declared.slot.Slot.{Slot}
 use Rattle.rank_machine.specs.declared.slot.SlotKind.TheVariants.{Data}
-use Rattle.rank_machine.specs.Setting.{Layout, group_count}
+use Rattle.rank_machine.specs.declared.layout.Layout.{Layout}
+use Rattle.rank_machine.specs.Setting.{group_count}
 use Rattle.rank_machine.specs.CodeLaw.{slot_at}
 use Rattle.line_phases.proofs.Ranges.{All-flat_map, Contains-flat_map, All-range, Contains-range, Contains-map_range}
 use Rattle.line_phases.specs.Printing.{group_slots, strip_slots}

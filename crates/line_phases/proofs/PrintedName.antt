@@ -5,11 +5,12 @@ use Rattle.std.proofs.lemmas.Bool.{false≢true, eqb-true, eq-eqb, ne_eqb, and_f
 use Rattle.std.proofs.lemmas.Slice.Eq.{bytes_eq-Decides}
 use Rattle.run_data.specs.declared.command.Command.{Command}
 use Rattle.run_data.specs.declared.command.Command.TheVariants as c
-use Rattle.run_data.specs.Script.{Numbered, commands_from, commands_of, command_at, makes_records, maker, is_grid_line, grids_before, number_of, meant, name_in}
+use Rattle.run_data.specs.Script.{Numbered, commands_from, commands_of, command_at, makes_records, maker, is_grid_line, grids_before, operand_number, meant, name_in}
 use Rattle.blacs_grid.specs.declared.Grid.{Grid}
 use Rattle.array_desc.specs.Maps.{groups}
 use Rattle.rank_machine.specs.declared.mark.Mark.{Mark}
-use Rattle.rank_machine.specs.Setting.{Layout, Job, some_job, no_job, no_grid, job, is_job, is_matrix, layout, factored}
+use Rattle.rank_machine.specs.declared.layout.Layout.{Layout}
+use Rattle.rank_machine.specs.Setting.{Job, some_job, no_job, no_grid, job, is_job, is_matrix, layout, factored}
 use Rattle.rank_machine.specs.Scripts.{Matrices, job_of, jobs_from, grids_from, line_meant, layout_named, setting_of}
 use Rattle.rank_machine.specs.Effect.{has_ended, is_dropped, is_live_matrix}
 use Rattle.rank_machine.proofs.Jobs.{job_of-line}
@@ -51,7 +52,7 @@ drop_means script k what name h e is =
     let there = thing cs k name (thing_kept script k name h e) in
     let meant_line : line_meant cs k 1 ≡ there.at =
     ap (λ (o : Option Command). unwrap_or (meant cs k (name_in o 1)) 0) e
-    ∙ ap (λ (o : Option ℕ). unwrap_or (number_of cs o) 0) there.maker_is
+    ∙ ap (λ (o : Option ℕ). unwrap_or (operand_number cs o) 0) there.maker_is
     ∙ ap (λ (b : Bool). if b then grids_before cs there.at else there.at) there.no_grid in
     there.maker_is ∙ ap (λ (l : ℕ). Some l) (sym meant_line ∙ is)
 

@@ -5,7 +5,8 @@ use Rattle.blacs_grid.specs.declared.Scope.TheVariants.{All}
 use Rattle.blacs_grid.specs.Places.{members, member}
 use Rattle.rank_machine.specs.declared.slot.SlotKind.TheVariants.{Data}
 use Rattle.rank_machine.specs.declared.slot.Slot.{Slot}
-use Rattle.rank_machine.specs.Setting.{Setting, Layout, layout, group_count}
+use Rattle.rank_machine.specs.declared.layout.Layout.{Layout}
+use Rattle.rank_machine.specs.Setting.{Setting, layout, group_count}
 use Rattle.rank_machine.specs.CodeLaw.{slot_at}
 
 -- the strips of one group of the matrix that a line made, on the data ranks row by row

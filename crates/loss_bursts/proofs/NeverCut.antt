@@ -19,7 +19,7 @@ use Rattle.run_laws.proofs.Going.{within_none}
 use Rattle.loss_bursts.specs.Bursts.{in_time, AreClose, is_hit, hits_in, IsBurst, AreSurvivable, HasSparesOf}
 use Rattle.rank_machine.specs.Legal.{IsLegal}
 use Rattle.loss_bursts.proofs.Spared.{none-lacks}
-use Rattle.loss_bursts.proofs.Sorted.{told, told-sorted}
+use Rattle.loss_bursts.proofs.Sorted.{losses_told, losses_told-sorted}
 use Rattle.loss_bursts.proofs.Scanned.{IsScanned, scanned}
 use Rattle.loss_bursts.proofs.Bursts.{AreHitBy, in-burst}
 
@@ -43,8 +43,8 @@ pub never-beyond : (s : Setting) (recovery : ℕ) (cut : Bool) (journal : List R
 never-beyond s recovery cut journal number row due goes heals can here =
     let st : State = state_after s journal in
     let g : Grid = grid_numbered s number in
-    let scan : IsScanned s recovery journal (told 0 journal) = scanned s recovery journal goes heals in
-    let sorted : (later : List Loss) × (in_time s.losses ≡ told 0 journal ++ later) = told-sorted s.losses cut journal due in
+    let scan : IsScanned s recovery journal (losses_told 0 journal) = scanned s recovery journal goes heals in
+    let sorted : (later : List Loss) × (in_time s.losses ≡ losses_told 0 journal ++ later) = losses_told-sorted s.losses cut journal due in
     let whole : in_time s.losses ≡ scan.earlier ++ (scan.part ++ sorted.0) = sorted.1 ∙ (ap (λ ls. ls ++ sorted.0) scan.whole ∙ append_assoc scan.earlier scan.part sorted.0) in
     let parts : ((nat_lt number (length s.grids) && nat_lt row g.p) ≡ true) × ((nat_lt g.f (lost_in st g row) && holds_live s st number) ≡ true) =
     and_parts (nat_lt number (length s.grids) && nat_lt row g.p) (nat_lt g.f (lost_in st g row) && holds_live s st number) here in

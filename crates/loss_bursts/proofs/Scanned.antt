@@ -14,7 +14,7 @@ use Rattle.rank_machine.proofs.Runs.{state_after-push}
 use Rattle.run_laws.specs.Cuts.{MayGoOn, GoOnFrom}
 use Rattle.run_laws.specs.Traces.{HealsWithin, HealFrom}
 use Rattle.loss_bursts.specs.Bursts.{AreClose, is_hit}
-use Rattle.loss_bursts.proofs.Sorted.{told}
+use Rattle.loss_bursts.proofs.Sorted.{losses_told}
 
 abbrev pub IsSome : List Loss → Type 0
 IsSome [] = ⊥
@@ -99,7 +99,7 @@ kept s st (r.Take a b) e rank = refl
 kept s st r.Restore e rank = refl
 kept s st (r.Spawn a) e rank = refl
 
-told_calm : (n : ℕ) (x : Rec) (xs : List Rec) → is_calm x ≡ true → told n (x ∷ xs) ≡ told (n + 1) xs
+told_calm : (n : ℕ) (x : Rec) (xs : List Rec) → is_calm x ≡ true → losses_told n (x ∷ xs) ≡ losses_told (n + 1) xs
 told_calm n (r.Lose a) xs e = absurd (true≢false (sym e))
 told_calm n (r.Commit m h) xs e = absurd (true≢false (sym e))
 told_calm n (r.Feed a b) xs e = refl
@@ -166,13 +166,13 @@ module _ (s : Setting) (recovery : ℕ) where
   moved before x xs all all' e h = subst (λ j. IsScanned s recovery j all') (append_assoc before (x ∷ []) xs) (subst (λ ls. IsScanned s recovery ((before ++ x ∷ []) ++ xs) ls) (sym e) h)
 
   calm_scan : (n : ℕ) (before : List Rec) (x : Rec) (xs : List Rec) (earlier part : List Loss) → is_calm x ≡ true → GoOnFrom s before (x ∷ xs) → IsSoFar s recovery n before (x ∷ xs) part
-      → (IsSoFar s recovery (n + 1) (before ++ x ∷ []) xs part → IsScanned s recovery ((before ++ x ∷ []) ++ xs) (earlier ++ (part ++ told (n + 1) xs)))
-      → IsScanned s recovery (before ++ x ∷ xs) (earlier ++ (part ++ told n (x ∷ xs)))
+      → (IsSoFar s recovery (n + 1) (before ++ x ∷ []) xs part → IsScanned s recovery ((before ++ x ∷ []) ++ xs) (earlier ++ (part ++ losses_told (n + 1) xs)))
+      → IsScanned s recovery (before ++ x ∷ xs) (earlier ++ (part ++ losses_told n (x ∷ xs)))
   calm_scan n before x xs earlier part e go h rest =
-      moved before x xs (earlier ++ (part ++ told (n + 1) xs)) (earlier ++ (part ++ told n (x ∷ xs))) (ap (λ ls. earlier ++ (part ++ ls)) (told_calm n x xs e))
+      moved before x xs (earlier ++ (part ++ losses_told (n + 1) xs)) (earlier ++ (part ++ losses_told n (x ∷ xs))) (ap (λ ls. earlier ++ (part ++ ls)) (told_calm n x xs e))
       (rest (calm_next n before x xs part e (go.0 (calm_numbered x e)) h))
 
-  scan : (n : ℕ) (before xs : List Rec) (earlier part : List Loss) → GoOnFrom s before xs → HealFrom false recovery s before xs → IsSoFar s recovery n before xs part → IsScanned s recovery (before ++ xs) (earlier ++ (part ++ told n xs))
+  scan : (n : ℕ) (before xs : List Rec) (earlier part : List Loss) → GoOnFrom s before xs → HealFrom false recovery s before xs → IsSoFar s recovery n before xs part → IsScanned s recovery (before ++ xs) (earlier ++ (part ++ losses_told n xs))
   scan n before [] earlier part go heal h = record {
     earlier = earlier;
     part = part;
@@ -182,10 +182,10 @@ module _ (s : Setting) (recovery : ℕ) where
   }
   scan n before (r.Lose rank ∷ xs) earlier part go heal h =
       let l : Loss = record { at = n; rank = rank } in
-      moved before (r.Lose rank) xs (earlier ++ ((part ++ l ∷ []) ++ told n xs)) (earlier ++ (part ++ l ∷ told n xs)) (ap (λ ls. earlier ++ ls) (sym (append_assoc part (l ∷ []) (told n xs))))
+      moved before (r.Lose rank) xs (earlier ++ ((part ++ l ∷ []) ++ losses_told n xs)) (earlier ++ (part ++ l ∷ losses_told n xs)) (ap (λ ls. earlier ++ ls) (sym (append_assoc part (l ∷ []) (losses_told n xs))))
       (scan n (before ++ r.Lose rank ∷ []) xs earlier (part ++ l ∷ []) go.1 heal.1 (lose_next n before rank xs part (heal.0 refl) h))
   scan n before (r.Commit m b ∷ xs) earlier part go heal h =
-      moved before (r.Commit m b) xs ((earlier ++ part) ++ told (n + 1) xs) (earlier ++ (part ++ told (n + 1) xs)) (sym (append_assoc earlier part (told (n + 1) xs)))
+      moved before (r.Commit m b) xs ((earlier ++ part) ++ losses_told (n + 1) xs) (earlier ++ (part ++ losses_told (n + 1) xs)) (sym (append_assoc earlier part (losses_told (n + 1) xs)))
       (scan (n + 1) (before ++ r.Commit m b ∷ []) xs (earlier ++ part) [] go.1 heal.1 (commit_next n before (r.Commit m b) xs (λ rank. refl)))
   scan n before (r.Feed a b ∷ xs) earlier part go heal h = calm_scan n before (r.Feed a b) xs earlier part refl go h (scan (n + 1) (before ++ r.Feed a b ∷ []) xs earlier part go.1 heal.1)
   scan n before (r.Kernel a b ∷ xs) earlier part go heal h = calm_scan n before (r.Kernel a b) xs earlier part refl go h (scan (n + 1) (before ++ r.Kernel a b ∷ []) xs earlier part go.1 heal.1)
@@ -197,5 +197,5 @@ module _ (s : Setting) (recovery : ℕ) where
   scan n before (r.Spawn a ∷ xs) earlier part go heal h = calm_scan n before (r.Spawn a) xs earlier part refl go h (scan (n + 1) (before ++ r.Spawn a ∷ []) xs earlier part go.1 heal.1)
 
   -- of a whole journal
-  pub scanned : (journal : List Rec) → GoOnFrom s [] journal → HealFrom false recovery s [] journal → IsScanned s recovery journal (told 0 journal)
+  pub scanned : (journal : List Rec) → GoOnFrom s [] journal → HealFrom false recovery s [] journal → IsScanned s recovery journal (losses_told 0 journal)
   scanned journal go heal = scan 0 [] journal [] [] go heal (record { close = tt; near = λ some. absurd some; owed = λ some. absurd some; lost = λ rank. refl })

@@ -108,20 +108,20 @@ sorted-upto ls zero = ap in_time (sym (from_none ls))
 sorted-upto ls (suc n) = sorted-upto ls n ∙ (ap (λ zs. upto ls n ++ zs) (sorted_step n ls) ∙ sym (append_assoc (upto ls n) (those_at ls n) (in_time (those_from (suc n) ls))))
 
 -- ---- what a journal tells, from the record of a number on
-abbrev pub told : ℕ → List Rec → List Loss
-told n [] = []
-told n (r.Lose rank ∷ xs) = record { at = n; rank = rank } ∷ told n xs
-told n (r.Feed a b ∷ xs) = told (n + 1) xs
-told n (r.Kernel a b ∷ xs) = told (n + 1) xs
-told n (r.Send a b c ∷ xs) = told (n + 1) xs
-told n (r.Recv a b c ∷ xs) = told (n + 1) xs
-told n (r.Save a b ∷ xs) = told (n + 1) xs
-told n (r.Take a b ∷ xs) = told (n + 1) xs
-told n (r.Restore ∷ xs) = told (n + 1) xs
-told n (r.Spawn a ∷ xs) = told (n + 1) xs
-told n (r.Commit a b ∷ xs) = told (n + 1) xs
+abbrev pub losses_told : ℕ → List Rec → List Loss
+losses_told n [] = []
+losses_told n (r.Lose rank ∷ xs) = record { at = n; rank = rank } ∷ losses_told n xs
+losses_told n (r.Feed a b ∷ xs) = losses_told (n + 1) xs
+losses_told n (r.Kernel a b ∷ xs) = losses_told (n + 1) xs
+losses_told n (r.Send a b c ∷ xs) = losses_told (n + 1) xs
+losses_told n (r.Recv a b c ∷ xs) = losses_told (n + 1) xs
+losses_told n (r.Save a b ∷ xs) = losses_told (n + 1) xs
+losses_told n (r.Take a b ∷ xs) = losses_told (n + 1) xs
+losses_told n (r.Restore ∷ xs) = losses_told (n + 1) xs
+losses_told n (r.Spawn a ∷ xs) = losses_told (n + 1) xs
+losses_told n (r.Commit a b ∷ xs) = losses_told (n + 1) xs
 
-told_numbered : (n : ℕ) (x : Rec) (xs : List Rec) → is_numbered x ≡ true → told n (x ∷ xs) ≡ told (n + 1) xs
+told_numbered : (n : ℕ) (x : Rec) (xs : List Rec) → is_numbered x ≡ true → losses_told n (x ∷ xs) ≡ losses_told (n + 1) xs
 told_numbered n (r.Lose a) xs e = absurd (true≢false (sym e))
 told_numbered n (r.Feed a b) xs e = refl
 told_numbered n (r.Kernel a b) xs e = refl
@@ -133,7 +133,7 @@ told_numbered n r.Restore xs e = refl
 told_numbered n (r.Spawn a) xs e = refl
 told_numbered n (r.Commit a b) xs e = refl
 
-told_falls : (n : ℕ) (ls : List Loss) (xs : List Rec) → told n (falls ls n ++ xs) ≡ those_at ls n ++ told n xs
+told_falls : (n : ℕ) (ls : List Loss) (xs : List Rec) → losses_told n (falls ls n ++ xs) ≡ those_at ls n ++ losses_told n xs
 told_falls n [] xs = refl
 told_falls n (l ∷ ls) xs =
     ⊎_elim
@@ -144,15 +144,15 @@ told_falls n (l ∷ ls) xs =
     same : {a b : List Loss} (l : Loss) (n : ℕ) → l.at ≡ n → a ≡ b → ((record { at = n; rank = l.rank }) ∷ a) ≡ (l ∷ b)
     same {a} {b} l n e h = ap (λ k. (record { at = k; rank = l.rank }) ∷ a) (sym e) ∙ ap (λ zs. l ∷ zs) h
 
-told_due : (ls : List Loss) (cut : Bool) (n : ℕ) (xs : List Rec) → All (λ x. is_numbered x ≡ true) xs → (end : ℕ) × (upto ls n ++ told n (with_falls ls cut n xs) ≡ upto ls end)
-told_due ls true n [] h = (suc n, ap (λ zs. upto ls n ++ zs) (ap (told n) (sym (append-nil (falls ls n))) ∙ (told_falls n ls [] ∙ append-nil (those_at ls n))))
+told_due : (ls : List Loss) (cut : Bool) (n : ℕ) (xs : List Rec) → All (λ x. is_numbered x ≡ true) xs → (end : ℕ) × (upto ls n ++ losses_told n (with_falls ls cut n xs) ≡ upto ls end)
+told_due ls true n [] h = (suc n, ap (λ zs. upto ls n ++ zs) (ap (losses_told n) (sym (append-nil (falls ls n))) ∙ (told_falls n ls [] ∙ append-nil (those_at ls n))))
 told_due ls false n [] h = (n, append-nil (upto ls n))
 told_due ls cut n (x ∷ xs) h =
     let rest : List Rec = with_falls ls cut (n + 1) xs in
-    let next : (end : ℕ) × (upto ls (n + 1) ++ told (n + 1) rest ≡ upto ls end) = told_due ls cut (n + 1) xs (All-tail (λ (x : Rec). is_numbered x ≡ true) x xs h) in
-    let one : told n (falls ls n ++ x ∷ rest) ≡ those_at ls n ++ told (n + 1) rest = told_falls n ls (x ∷ rest) ∙ ap (λ zs. those_at ls n ++ zs) (told_numbered n x rest (All-head (λ (x : Rec). is_numbered x ≡ true) x xs h)) in
+    let next : (end : ℕ) × (upto ls (n + 1) ++ losses_told (n + 1) rest ≡ upto ls end) = told_due ls cut (n + 1) xs (All-tail (λ (x : Rec). is_numbered x ≡ true) x xs h) in
+    let one : losses_told n (falls ls n ++ x ∷ rest) ≡ those_at ls n ++ losses_told (n + 1) rest = told_falls n ls (x ∷ rest) ∙ ap (λ zs. those_at ls n ++ zs) (told_numbered n x rest (All-head (λ (x : Rec). is_numbered x ≡ true) x xs h)) in
     let more : n + 1 ≡ suc n = omega arith in
-    (next.0, ap (λ zs. upto ls n ++ zs) one ∙ (sym (append_assoc (upto ls n) (those_at ls n) (told (n + 1) rest)) ∙ (ap (λ k. upto ls k ++ told (n + 1) rest) (sym more) ∙ next.1)))
+    (next.0, ap (λ zs. upto ls n ++ zs) one ∙ (sym (append_assoc (upto ls n) (those_at ls n) (losses_told (n + 1) rest)) ∙ (ap (λ k. upto ls k ++ losses_told (n + 1) rest) (sym more) ∙ next.1)))
 
 all_numbered : (xs : List Rec) → All (λ x. is_numbered x ≡ true) (filter is_numbered xs)
 all_numbered [] = All-nil (λ (x : Rec). is_numbered x ≡ true)
@@ -163,8 +163,8 @@ all_numbered (x ∷ xs) =
     (cases_Bool (is_numbered x))
 
 -- the losses that have fallen are the first ones of the sorted ones
-pub told-sorted : (ls : List Loss) (cut : Bool) (journal : List Rec) → journal ≡ with_falls ls cut 0 (filter is_numbered journal) → (later : List Loss) × (in_time ls ≡ told 0 journal ++ later)
-told-sorted ls cut journal due =
-    let fell : (end : ℕ) × (told 0 (with_falls ls cut 0 (filter is_numbered journal)) ≡ upto ls end) = told_due ls cut 0 (filter is_numbered journal) (all_numbered journal) in
-    let all : told 0 journal ≡ upto ls fell.0 = ap (told 0) due ∙ fell.1 in
+pub losses_told-sorted : (ls : List Loss) (cut : Bool) (journal : List Rec) → journal ≡ with_falls ls cut 0 (filter is_numbered journal) → (later : List Loss) × (in_time ls ≡ losses_told 0 journal ++ later)
+losses_told-sorted ls cut journal due =
+    let fell : (end : ℕ) × (losses_told 0 (with_falls ls cut 0 (filter is_numbered journal)) ≡ upto ls end) = told_due ls cut 0 (filter is_numbered journal) (all_numbered journal) in
+    let all : losses_told 0 journal ≡ upto ls fell.0 = ap (losses_told 0) due ∙ fell.1 in
     (in_time (those_from fell.0 ls), sorted-upto ls fell.0 ∙ ap (λ zs. zs ++ in_time (those_from fell.0 ls)) (sym all))

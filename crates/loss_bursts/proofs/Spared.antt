@@ -16,7 +16,7 @@ use Rattle.run_laws.specs.Spares.{spawns}
 use Rattle.run_laws.proofs.Spawned.{spawned-is}
 use Rattle.field_core.proofs.Sums.{sum_to-none, sum_to-suc}
 use Rattle.loss_bursts.specs.Bursts.{put_in, in_time}
-use Rattle.loss_bursts.proofs.Sorted.{told, told-sorted}
+use Rattle.loss_bursts.proofs.Sorted.{losses_told, losses_told-sorted}
 
 -- ---- lost ranks
 -- how many of the ranks below k are lost now, one by one
@@ -91,7 +91,7 @@ gone_alike a b zero e = refl
 gone_alike a b (suc k) e = rw (ap (λ f. f k) e) (omega (arith, gone_alike a b k e))
 
 -- ---- each spawn brings back a rank that a loss took
-spawn_scan : (s : Setting) (st : State) (n : ℕ) (xs : List Rec) → IsLegalFrom s st xs → spawns xs + gone_below (replay s st xs) (ranks s) ≤ gone_below st (ranks s) + length (told n xs)
+spawn_scan : (s : Setting) (st : State) (n : ℕ) (xs : List Rec) → IsLegalFrom s st xs → spawns xs + gone_below (replay s st xs) (ranks s) ≤ gone_below st (ranks s) + length (losses_told n xs)
 spawn_scan s st n [] h = omega arith
 spawn_scan s st n (r.Lose rank ∷ xs) h = omega (arith, spawn_scan s (after s st (r.Lose rank)) n xs h.1, gone_lost st (after s st (r.Lose rank)) rank (ranks s) refl)
 spawn_scan s st n (r.Spawn rank ∷ xs) h =
@@ -118,9 +118,9 @@ length_sorted (l ∷ ls) = omega (arith, length_put l (in_time ls), length_sorte
 -- no rank lacks a spare
 pub none-lacks : (s : Setting) (cut : Bool) (journal : List Rec) (n rank : ℕ) → IsLegal s journal → AreDue s cut journal → length s.losses ≤ n → LacksSpareOf (Some n) s (state_after s journal) rank → ⊥
 none-lacks s cut journal n rank legal due enough lacks =
-    let sorted : (later : List Loss) × (in_time s.losses ≡ told 0 journal ++ later) = told-sorted s.losses cut journal due in
-    let fell : length (told 0 journal) ≤ length s.losses = omega (arith, ap length sorted.1, length-append (told 0 journal) sorted.0, length_sorted s.losses) in
-    let scan : spawns journal + gone_below (state_after s journal) (ranks s) ≤ gone_below (opened s) (ranks s) + length (told 0 journal) = spawn_scan s (opened s) 0 journal legal in
+    let sorted : (later : List Loss) × (in_time s.losses ≡ losses_told 0 journal ++ later) = losses_told-sorted s.losses cut journal due in
+    let fell : length (losses_told 0 journal) ≤ length s.losses = omega (arith, ap length sorted.1, length-append (losses_told 0 journal) sorted.0, length_sorted s.losses) in
+    let scan : spawns journal + gone_below (state_after s journal) (ranks s) ≤ gone_below (opened s) (ranks s) + length (losses_told 0 journal) = spawn_scan s (opened s) 0 journal legal in
     let none : gone_below (opened s) (ranks s) ≡ 0 = gone_none s (ranks s) (omega arith) in
     let more : gone_below (state_after s journal) rank + 1 ≤ gone_below (state_after s journal) (ranks s) = gone_more (state_after s journal) rank (ranks s) lacks.1 lacks.0 in
     absurd (omega (arith, fell, scan, none, more, lacks.2, spawned-is s journal, gone-lost_now (state_after s journal) rank, enough))

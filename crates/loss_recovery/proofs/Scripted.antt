@@ -3,7 +3,8 @@ use Rattle.std.proofs.Common.{◌≡◌, ◌+◌, ◌*◌, ◌<◌, ◌≤◌, i
 use Rattle.std.specs.Prelude.{unwrap_or}
 use Rattle.std.proofs.Math.Nat.{mul-le-mul_left}
 use Rattle.blacs_grid.specs.Places.{width}
-use Rattle.rank_machine.specs.Setting.{Setting, Layout, job, no_layout, is_matrix}
+use Rattle.rank_machine.specs.declared.layout.Layout.{Layout}
+use Rattle.rank_machine.specs.Setting.{Setting, job, no_layout, is_matrix}
 use Rattle.script_lines.specs.Layouts.{IsLayout}
 use Rattle.script_lines.specs.Sound.{IsSound}
 use Rattle.run_laws.specs.LastCommit.{IsScripted}

@@ -5,7 +5,7 @@ use Rattle.array_desc.specs.Descriptors.{desc_of}
 use Rattle.rank_machine.specs.declared.slot.SlotKind.TheVariants.{Data, Code, Pivots, Work}
 use Rattle.rank_machine.specs.declared.slot.Slot.{Slot}
 use Rattle.rank_machine.specs.declared.slot.Tile.TheVariants.{Words, Index}
-use Rattle.script_lines.specs.declared.layouts.Layout.{Layout}
+use Rattle.rank_machine.specs.declared.layout.Layout.{Layout}
 use Rattle.script_lines.specs.declared.lines.Line.{Line}
 use Rattle.rank_slots.specs.Rank.{Rank, with_tile}
 

@@ -4,7 +4,7 @@ ghost use Rattle.std.specs.Prelude.{◌≡◌, ◌∷◌, [], true, IsTrue};
 ghost use Rattle.run_data.specs.Matrix.{with_entry, zero_matrix};
 ghost use Rattle.rank_machine.specs.declared.slot.Tile.TheVariants.{Words, Index};
 ghost use Rattle.rank_machine.specs.Legal.{fits};
-ghost use Rattle.script_lines.specs.Layouts.{seen, IsLayout};
+ghost use Rattle.script_lines.specs.Layouts.{IsLayout};
 ghost use Rattle.rank_slots.specs.Cells.{IsMatrixOf, IsTileOf};
 ghost use Rattle.rank_slots.specs.Rank.{Rank, state_in, with_tile, MayApply, MayRead};
 ghost use Rattle.memory_tests.specs.Example as example;
@@ -142,7 +142,7 @@ const SECOND: Part = Part {
 /// A matrix of 5 by 2 words in blocks of 2 by 2, on two process rows and a code column, from process row 1 on.
 fn layout(rt: &impl Abort) -> Layout
     ensures value { result ≡ example.layout }
-    ensures sound { IsLayout (seen result) }
+    ensures sound { IsLayout result }
 {
     match Grid::new(2, 1, 1, 0) {
         Ok(grid) => match Desc::new(0, 2, 1, 5, 2, 2, 2, 1, 0) {

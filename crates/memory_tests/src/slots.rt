@@ -36,7 +36,7 @@ fn slot_of(number: u32) -> Slot {
 }
 
 /// A strip of a matrix.
-fn strip_of(id: u32, group: u32) -> Slot {
+fn strip_slot(id: u32, group: u32) -> Slot {
     Slot {
         kind: SlotKind::Data,
         id,
@@ -77,7 +77,7 @@ fn take_there(rt: &impl Abort, alloc: Global, cells: &mut Cells, slot: Slot) -> 
 }
 
 /// The number of a list of one number.
-fn number_of(tile: &Tile) -> Option<u32> {
+fn number_in(tile: &Tile) -> Option<u32> {
     match tile {
         Tile::Index(list) => {
             if list.len() == 1 {
@@ -95,10 +95,10 @@ fn held(cells: &Cells, slot: Slot) -> Held {
     match find_cell(cells, slot) {
         Some(cell) => {
             let saved = match &cell.saved {
-                Some(tile) => number_of(tile),
+                Some(tile) => number_in(tile),
                 None => None,
             };
-            (number_of(&cell.tile), saved, cell.fresh)
+            (number_in(&cell.tile), saved, cell.fresh)
         }
         None => NOTHING,
     }
@@ -168,7 +168,7 @@ fn live_slots_are_kept(rt: HostRuntime) {
     let mut cells = Cells::new(rt.alloc());
     for id in [1, 2] {
         for group in [0, 1, 2] {
-            let slot = strip_of(id, group);
+            let slot = strip_slot(id, group);
             put_number(&rt, rt.alloc(), &mut cells, slot, id * 10 + group);
             save_there(&rt, rt.alloc(), &mut cells, slot);
         }
@@ -180,14 +180,14 @@ fn live_slots_are_kept(rt: HostRuntime) {
         check_held(
             &rt,
             &cells,
-            strip_of(1, group),
+            strip_slot(1, group),
             (Some(10 + group), None, false),
         );
     }
     check_words(&rt, &cells, 2);
     keep(&mut cells, &table, Mark::first(), 0);
     check_words(&rt, &cells, 0);
-    check_held(&rt, &cells, strip_of(1, 0), NOTHING);
+    check_held(&rt, &cells, strip_slot(1, 0), NOTHING);
 }
 
 #[test]

@@ -9,7 +9,8 @@ use Rattle.blacs_grid.specs.Places.{width, rank_at}
 use Rattle.blacs_grid.proofs.PlaceLaws.{row_of-rank_at, col_of-rank_at}
 use Rattle.rank_machine.specs.declared.slot.SlotKind.TheVariants.{Data, Code, Low, Open}
 use Rattle.rank_machine.specs.declared.mark.Mark.{Mark}
-use Rattle.rank_machine.specs.Setting.{Setting, Layout, strip_of, strip_rows, group_count, block_at, global_col}
+use Rattle.rank_machine.specs.declared.layout.Layout.{Layout}
+use Rattle.rank_machine.specs.Setting.{Setting, strip_of, strip_rows, group_count, block_at, global_col}
 use Rattle.rank_machine.specs.State.{State}
 use Rattle.rank_machine.specs.Effect.{words_of}
 use Rattle.rank_machine.specs.CodeLaw.{slot_at, has_low, has_open, is_open_group, data_word, code_word, symbol, is_strip_of, MatrixLaw}

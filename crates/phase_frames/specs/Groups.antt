@@ -4,7 +4,8 @@ use Rattle.run_data.specs.Matrix.{Matrix}
 use Rattle.blacs_grid.specs.Places.{rank_at}
 use Rattle.rank_machine.specs.declared.slot.SlotKind.TheVariants.{Data}
 use Rattle.rank_machine.specs.declared.slot.Tile.TheVariants.{Words}
-use Rattle.rank_machine.specs.Setting.{Layout, strip_of}
+use Rattle.rank_machine.specs.declared.layout.Layout.{Layout}
+use Rattle.rank_machine.specs.Setting.{strip_of}
 use Rattle.rank_machine.specs.State.{State}
 use Rattle.rank_machine.specs.CodeLaw.{slot_at}
 

@@ -8,7 +8,8 @@ use Rattle.blacs_grid.specs.Places.{rank_at}
 use Rattle.blacs_grid.proofs.PlaceLaws.{row_of-rank_at}
 use Rattle.rank_machine.specs.declared.slot.Tile.{Tile}
 use Rattle.rank_machine.specs.declared.slot.Slot.{Slot}
-use Rattle.rank_machine.specs.Setting.{Layout, strip_rows, global_row}
+use Rattle.rank_machine.specs.declared.layout.Layout.{Layout}
+use Rattle.rank_machine.specs.Setting.{strip_rows, global_row}
 use Rattle.rank_machine.specs.State.{State}
 use Rattle.rank_machine.specs.Effect.{words_of, is_words}
 use Rattle.rank_machine.specs.CodeLaw.{is_strip_of}

@@ -14,7 +14,8 @@ use Rattle.blacs_grid.proofs.PlaceLaws.{row_of-rank_at, col_of-rank_at}
 use Rattle.rank_machine.specs.declared.slot.SlotKind.TheVariants.{Data}
 use Rattle.rank_machine.specs.declared.slot.Slot.{Slot}
 use Rattle.rank_machine.specs.declared.slot.Piece.{Piece}
-use Rattle.rank_machine.specs.Setting.{Layout, Setting, layout}
+use Rattle.rank_machine.specs.declared.layout.Layout.{Layout}
+use Rattle.rank_machine.specs.Setting.{Setting, layout}
 use Rattle.rank_machine.specs.Effect.{Memory, none_number, words_of, slot_of, least_of, number_if, is_zero_here}
 use Rattle.rank_machine.specs.CodeLaw.{slot_at}
 use Rattle.serial_model.specs.Elimination.{least_zero, diagonal}

@@ -19,7 +19,8 @@ use Rattle.rank_machine.specs.declared.slot.Piece.TheVariants as piece
 use Rattle.rank_machine.specs.declared.kernel.Cut.{Cut}
 use Rattle.rank_machine.specs.declared.kernel.Cut.TheVariants as cut
 use Rattle.rank_machine.specs.declared.kernel.Kernel.TheVariants as k
-use Rattle.rank_machine.specs.Setting.{Layout, Setting, layout, global_row, global_col}
+use Rattle.rank_machine.specs.declared.layout.Layout.{Layout}
+use Rattle.rank_machine.specs.Setting.{Setting, layout, global_row, global_col}
 use Rattle.rank_machine.specs.Effect.{Memory, words_of, is_words, matrix_in, area_in, cut_out, piece_in, with_piece, reaches, made_by}
 use Rattle.elimination.specs.CodeLaw.{upper, lower}
 use Rattle.elimination.specs.Strips.{RowMap, rows_below, row_at, row_owner, row_place, Hold, AreExchanged, block_rows, AreSolved, AreUpperSolved, HaveGained, AreEliminated, HaveAdded, added_words, one_row}

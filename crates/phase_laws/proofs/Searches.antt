@@ -9,8 +9,9 @@ use Rattle.rank_machine.specs.declared.slot.Tile.TheVariants.{Index}
 use Rattle.rank_machine.specs.declared.slot.Piece.{Piece}
 use Rattle.rank_machine.specs.declared.slot.Piece.TheVariants as piece
 use Rattle.rank_machine.specs.declared.kernel.Kernel.TheVariants as k
-use Rattle.rank_machine.specs.Setting.{Layout, Setting, layout, global_row}
-use Rattle.rank_machine.specs.Effect.{Memory, none_number, words_of, numbers_of, number_of, slot_of, least_of, number_if, first_row, pushed, made_by}
+use Rattle.rank_machine.specs.declared.layout.Layout.{Layout}
+use Rattle.rank_machine.specs.Setting.{Setting, layout, global_row}
+use Rattle.rank_machine.specs.Effect.{Memory, none_number, words_of, numbers_of, first_number, slot_of, least_of, number_if, first_row, pushed, made_by}
 use Rattle.serial_model.specs.Elimination.{pivot_from, Eliminated, with_pivot, eliminate_column}
 use Rattle.elimination.specs.Strips.{IsRowMap, rows_below, row_at, row_owner, row_place, Hold}
 use Rattle.elimination.proofs.Steps.{IsPivot, pivot_from-is}
@@ -182,6 +183,6 @@ push-pivots p inverse m j s h small = by_pivot (pivot_from (λ i. s.words i j) j
         let t : (r + 1 == none_number) ≡ false = ne_eqb (r + 1) none_number (λ e. absurd (omega arith)) in
         rw t refl)
 
-pub push-made : (s : Setting) (rank : ℕ) (mem : Memory) (to : Slot) (from : Piece) (p : ℕ) (inverse : ℕ → ℕ) (m j : ℕ) (e : Eliminated) → j ≤ m → m < none_number → numbers_of (mem to) ≡ e.pivots → number_of (mem (slot_of from)) ≡ number_found (pivot_from (λ i. e.words i j) j (m - j)) → made_by s rank mem (k.Push to from j) ≡ Index (eliminate_column p inverse m j e).pivots
+pub push-made : (s : Setting) (rank : ℕ) (mem : Memory) (to : Slot) (from : Piece) (p : ℕ) (inverse : ℕ → ℕ) (m j : ℕ) (e : Eliminated) → j ≤ m → m < none_number → numbers_of (mem to) ≡ e.pivots → first_number (mem (slot_of from)) ≡ number_found (pivot_from (λ i. e.words i j) j (m - j)) → made_by s rank mem (k.Push to from j) ≡ Index (eliminate_column p inverse m j e).pivots
 push-made s rank mem to from p inverse m j e h small list number =
-    ap (λ v. Index (v ++ (pushed (number_of (mem (slot_of from))) j ∷ []))) list ∙ ap (λ n. Index (e.pivots ++ (pushed n j ∷ []))) number ∙ ap Index (sym (push-pivots p inverse m j e h small))
+    ap (λ v. Index (v ++ (pushed (first_number (mem (slot_of from))) j ∷ []))) list ∙ ap (λ n. Index (e.pivots ++ (pushed n j ∷ []))) number ∙ ap Index (sym (push-pivots p inverse m j e h small))

@@ -13,7 +13,8 @@ use Rattle.rank_machine.specs.declared.slot.Tile.{Tile}
 use Rattle.rank_machine.specs.declared.slot.Tile.TheVariants.{Words}
 use Rattle.rank_machine.specs.declared.slot.Piece.TheVariants as piece
 use Rattle.rank_machine.specs.declared.mark.Mark.{Mark}
-use Rattle.rank_machine.specs.Setting.{Layout, Setting, no_job}
+use Rattle.rank_machine.specs.declared.layout.Layout.{Layout}
+use Rattle.rank_machine.specs.Setting.{Setting, no_job}
 use Rattle.rank_machine.specs.State.{State, same_slot}
 use Rattle.rank_machine.specs.Effect.{Memory, piece_in, with_piece, first_row}
 use Rattle.rank_machine.specs.CodeLaw.{slot_at, MatrixLaw}

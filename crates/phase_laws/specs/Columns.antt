@@ -12,7 +12,8 @@ use Rattle.rank_machine.specs.declared.kernel.Cut.{Cut}
 use Rattle.rank_machine.specs.declared.kernel.Cut.TheVariants as cut
 use Rattle.rank_machine.specs.declared.kernel.Kernel.TheVariants as k
 use Rattle.rank_machine.specs.declared.mark.Mark.{Mark}
-use Rattle.rank_machine.specs.Setting.{Layout, Setting, group_count, block_at, global_col}
+use Rattle.rank_machine.specs.declared.layout.Layout.{Layout}
+use Rattle.rank_machine.specs.Setting.{Setting, group_count, block_at, global_col}
 use Rattle.rank_machine.specs.State.{State}
 use Rattle.rank_machine.specs.Effect.{Memory, words_of, slot_of, area_in, made_by}
 use Rattle.rank_machine.specs.CodeLaw.{slot_at, has_low, has_open, is_open_group, data_word, is_strip_of, IsPlace}

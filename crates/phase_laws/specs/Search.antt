@@ -5,8 +5,9 @@ use Rattle.rank_machine.specs.declared.slot.SlotKind.TheVariants.{Data}
 use Rattle.rank_machine.specs.declared.slot.Slot.{Slot}
 use Rattle.rank_machine.specs.declared.slot.Piece.{Piece}
 use Rattle.rank_machine.specs.declared.kernel.Kernel.TheVariants as k
-use Rattle.rank_machine.specs.Setting.{Layout, Setting, group_count, layout}
-use Rattle.rank_machine.specs.Effect.{Memory, none_number, number_of, slot_of, made_by}
+use Rattle.rank_machine.specs.declared.layout.Layout.{Layout}
+use Rattle.rank_machine.specs.Setting.{Setting, group_count, layout}
+use Rattle.rank_machine.specs.Effect.{Memory, none_number, first_number, slot_of, made_by}
 use Rattle.rank_machine.specs.CodeLaw.{slot_at}
 use Rattle.elimination.specs.Strips.{Hold}
 use Rattle.phase_laws.specs.Columns.{rows_of, strips_in, columns_of}
@@ -27,7 +28,7 @@ pub record HoldMatrix (d : Layout) (line : ℕ) (a : ℕ → ℕ → ℕ) (mem :
 
 -- the number that `diag` makes in the slot `to` on the rank at a process row and column: that of the first zero, from 1, among the first n words of the diagonal that lie on it, or none. The matrix is that of the slot of `from`
 abbrev pub zero_found : Setting → Slot → Piece → (ℕ → ℕ → Memory) → ℕ → ℕ → ℕ → ℕ
-zero_found s to from mem n row col = number_of (Some (made_by s (rank_at (layout s (slot_of from).id).grid row col) (mem col row) (k.Diag to from n)))
+zero_found s to from mem n row col = first_number (Some (made_by s (rank_at (layout s (slot_of from).id).grid row col) (mem col row) (k.Diag to from n)))
 
 -- the number that stands for INFO: none where it is 0
 abbrev pub info_number : ℕ → ℕ

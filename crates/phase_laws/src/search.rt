@@ -9,8 +9,9 @@ ghost use Rattle.rank_machine.specs.declared.slot.Tile.TheVariants.{Index};
 ghost use Rattle.rank_machine.specs.declared.slot.Piece.{Piece};
 ghost use Rattle.rank_machine.specs.declared.slot.Piece.TheVariants as piece;
 ghost use Rattle.rank_machine.specs.declared.kernel.Kernel.TheVariants as k;
-ghost use Rattle.rank_machine.specs.Setting.{Layout, Setting, layout};
-ghost use Rattle.rank_machine.specs.Effect.{Memory, none_number, numbers_of, number_of, slot_of, least_of, first_row, made_by};
+ghost use Rattle.rank_machine.specs.declared.layout.Layout.{Layout};
+ghost use Rattle.rank_machine.specs.Setting.{Setting, layout};
+ghost use Rattle.rank_machine.specs.Effect.{Memory, none_number, numbers_of, first_number, slot_of, least_of, first_row, made_by};
 ghost use Rattle.serial_model.specs.Elimination.{Eliminated, eliminate_column, pivot_from, least_zero, diagonal};
 ghost use Rattle.elimination.specs.Strips.{Hold};
 ghost use Rattle.phase_laws.specs.Columns.{rows_of, strips_in};
@@ -54,7 +55,7 @@ pub fn none_found_is_no_pivot()
 /// column.
 pub fn push_appends_the_pivot()
     ensures { (s : Setting) (rank : ℕ) (mem : Memory) (to : Slot) (from : Piece) (p : ℕ) (inverse : ℕ → ℕ) (m j : ℕ) (e : Eliminated) →
-        j ≤ m → m < none_number → numbers_of (mem to) ≡ e.pivots → number_of (mem (slot_of from)) ≡ number_found (pivot_from (λ i. e.words i j) j (m - j)) →
+        j ≤ m → m < none_number → numbers_of (mem to) ≡ e.pivots → first_number (mem (slot_of from)) ≡ number_found (pivot_from (λ i. e.words i j) j (m - j)) →
         made_by s rank mem (k.Push to from j) ≡ Index (eliminate_column p inverse m j e).pivots }
 {}
 

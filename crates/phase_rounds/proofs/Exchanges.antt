@@ -16,7 +16,8 @@ use Rattle.rank_machine.specs.declared.slot.Piece.{Piece}
 use Rattle.rank_machine.specs.declared.slot.Piece.TheVariants as piece
 use Rattle.rank_machine.specs.declared.kernel.Kernel.{Kernel}
 use Rattle.rank_machine.specs.declared.kernel.Kernel.TheVariants as k
-use Rattle.rank_machine.specs.Setting.{Layout, Setting}
+use Rattle.rank_machine.specs.declared.layout.Layout.{Layout}
+use Rattle.rank_machine.specs.Setting.{Setting}
 use Rattle.rank_machine.specs.State.{State, same_slot}
 use Rattle.rank_machine.specs.Effect.{words_of, is_words, piece_in, with_piece, made_by, replay}
 use Rattle.rank_machine.specs.Legal.{IsLegalFrom, is_inside}

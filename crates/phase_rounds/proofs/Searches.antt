@@ -6,7 +6,8 @@ use Rattle.blacs_grid.specs.Places.{width, rank_at}
 use Rattle.run_data.specs.Matrix.{cols}
 use Rattle.rank_machine.specs.declared.slot.Tile.TheVariants.{Index}
 use Rattle.rank_machine.specs.declared.slot.Piece.TheVariants as piece
-use Rattle.rank_machine.specs.Setting.{Layout, Setting}
+use Rattle.rank_machine.specs.declared.layout.Layout.{Layout}
+use Rattle.rank_machine.specs.Setting.{Setting}
 use Rattle.rank_machine.specs.State.{State, same_slot}
 use Rattle.rank_machine.specs.Effect.{words_of, least_of, first_row}
 use Rattle.rank_machine.specs.Legal.{in_matrix}

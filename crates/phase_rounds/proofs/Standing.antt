@@ -2,7 +2,7 @@
 use Rattle.std.proofs.Common.{◌≡◌, ◌<◌, ℕ, true, false, ap, sym, ◌∙◌, ⊎_elim}
 use Rattle.std.proofs.lemmas.Bool.{cases_Bool, true≢false}
 use Rattle.rank_machine.specs.declared.slot.Slot.{Slot}
-use Rattle.rank_machine.specs.Setting.{Layout}
+use Rattle.rank_machine.specs.declared.layout.Layout.{Layout}
 use Rattle.rank_machine.specs.State.{same_slot}
 use Rattle.rank_machine.specs.Effect.{is_words, words_of}
 use Rattle.rank_machine.proofs.Base.{same_slot-true}

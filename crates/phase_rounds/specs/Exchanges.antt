@@ -9,7 +9,8 @@ use Rattle.rank_machine.specs.declared.slot.Tile.{Tile}
 use Rattle.rank_machine.specs.declared.slot.Piece.{Piece}
 use Rattle.rank_machine.specs.declared.kernel.Kernel.{Kernel}
 use Rattle.rank_machine.specs.declared.kernel.Kernel.TheVariants as k
-use Rattle.rank_machine.specs.Setting.{Setting, Layout}
+use Rattle.rank_machine.specs.declared.layout.Layout.{Layout}
+use Rattle.rank_machine.specs.Setting.{Setting}
 use Rattle.rank_machine.specs.State.{State, same_slot}
 use Rattle.rank_machine.specs.Legal.{is_path}
 use Rattle.rank_slots.specs.Rank.{Rank}

@@ -19,7 +19,8 @@ use Rattle.rank_machine.specs.declared.slot.Piece.{Piece}
 use Rattle.rank_machine.specs.declared.slot.Piece.TheVariants as piece
 use Rattle.rank_machine.specs.declared.kernel.Kernel.{Kernel}
 use Rattle.rank_machine.specs.declared.kernel.Kernel.TheVariants as k
-use Rattle.rank_machine.specs.Setting.{Setting, Layout, job}
+use Rattle.rank_machine.specs.declared.layout.Layout.{Layout}
+use Rattle.rank_machine.specs.Setting.{Setting, job}
 use Rattle.rank_machine.specs.State.{State, same_slot}
 use Rattle.rank_machine.specs.Effect.{current, is_words, words_of}
 use Rattle.rank_machine.specs.Legal.{is_among, is_inside, height, breadth}

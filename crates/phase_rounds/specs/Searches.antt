@@ -2,7 +2,8 @@
 use Rattle.std.specs.Prelude.{◌≡◌, ℕ, ◌<◌, ◌≤◌, true, false, IsTrue}
 use Rattle.array_desc.specs.Descriptors.{IsDesc}
 use Rattle.blacs_grid.specs.Places.{width, rank_at}
-use Rattle.rank_machine.specs.Setting.{Setting, Layout, layout}
+use Rattle.rank_machine.specs.declared.layout.Layout.{Layout}
+use Rattle.rank_machine.specs.Setting.{Setting, layout}
 use Rattle.rank_machine.specs.State.{State, same_slot}
 use Rattle.rank_machine.specs.Legal.{is_path, in_matrix}
 use Rattle.round_laws.specs.Holdings.{Holding, may_put}

@@ -2,7 +2,7 @@
 use Rattle.std.specs.Prelude.{◌≡◌, ◌<◌, ℕ, true}
 use Rattle.rank_machine.specs.declared.slot.SlotKind.TheVariants.{Work}
 use Rattle.rank_machine.specs.declared.slot.Slot.{Slot}
-use Rattle.rank_machine.specs.Setting.{Layout}
+use Rattle.rank_machine.specs.declared.layout.Layout.{Layout}
 use Rattle.rank_machine.specs.Effect.{is_words}
 use Rattle.rank_machine.specs.CodeLaw.{slot_at}
 use Rattle.elimination.specs.Strips.{Hold}

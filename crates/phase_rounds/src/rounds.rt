@@ -4,7 +4,8 @@ ghost use Rattle.std.specs.Prelude.{◌≡◌, ℕ, ◌-◌, ◌<◌, Some, [], 
 ghost use Rattle.blacs_grid.specs.Places.{width};
 ghost use Rattle.rank_machine.specs.declared.slot.Slot.{Slot};
 ghost use Rattle.rank_machine.specs.declared.slot.Tile.TheVariants.{Index};
-ghost use Rattle.rank_machine.specs.Setting.{Setting, Layout};
+ghost use Rattle.rank_machine.specs.declared.layout.Layout.{Layout};
+ghost use Rattle.rank_machine.specs.Setting.{Setting};
 ghost use Rattle.rank_machine.specs.State.{State};
 ghost use Rattle.rank_machine.specs.Effect.{replay};
 ghost use Rattle.rank_machine.specs.Legal.{IsLegalFrom};

@@ -13,7 +13,8 @@ use Rattle.rank_machine.specs.declared.slot.SlotKind.TheVariants.{Data, Code, Lo
 use Rattle.rank_machine.specs.declared.slot.Tile.{Tile}
 use Rattle.rank_machine.specs.declared.slot.Tile.TheVariants.{Words, Index}
 use Rattle.rank_machine.specs.declared.mark.Mark.{Mark}
-use Rattle.rank_machine.specs.Setting.{Setting, Layout, Job, grid_of_rank, job_in, layout, is_matrix, factored, group_count, strip_rows}
+use Rattle.rank_machine.specs.declared.layout.Layout.{Layout}
+use Rattle.rank_machine.specs.Setting.{Setting, Job, grid_of_rank, job_in, layout, is_matrix, factored, group_count, strip_rows}
 use Rattle.rank_machine.specs.State.{State, same_slot}
 use Rattle.rank_machine.specs.Effect.{is_live, is_live_kind, is_live_matrix, is_live_list, has_ended, factoring}
 use Rattle.rank_machine.specs.CodeLaw.{slot_at, is_strip_of, pivots_of}

@@ -2,17 +2,23 @@
 ghost use Rattle.std.specs.Prelude.{◌≡◌, ◌<◌, ◌==◌, ◌∷◌, ◌++◌, [], if◌then◌else◌, length, decimal, map, IfOk, OnOk};
 ghost use Rattle.run_data.specs.Matrix.{cols};
 ghost use Rattle.run_data.specs.Text.{line_of};
-ghost use Rattle.serial_model.specs.Text.{row_text, matrix_text, pivots_text, info_text};
+ghost use Rattle.serial_model.specs.Text.{row_text, matrix_text, pivots_text, info_text, wrong_text};
 
 use itoa::Buffer;
 use run_data::{IndexList, Mat};
 use std::alloc::{AllocError as NoMemory, Global};
 
-fn add_number(out: &mut Vec<u8>, n: u32) -> Result<(), NoMemory>
+fn add_count(out: &mut Vec<u8>, n: usize) -> Result<(), NoMemory>
     ensures { OnOk result (out.new.items ≡ out.old.items ++ decimal n) }
 {
     let mut buffer = Buffer::new();
-    out.extend_from_slice(buffer.format(n as usize).as_bytes())
+    out.extend_from_slice(buffer.format(n).as_bytes())
+}
+
+fn add_number(out: &mut Vec<u8>, n: u32) -> Result<(), NoMemory>
+    ensures { OnOk result (out.new.items ≡ out.old.items ++ decimal n) }
+{
+    add_count(out, n as usize)
 }
 
 // The space before a word that is not the first of its line.
@@ -106,6 +112,18 @@ pub fn info_text(alloc: Global, command: &str, name: &str, info: u32) -> Result<
     out.extend_from_slice(name.as_bytes())?;
     out.extend_from_slice(b" info ")?;
     add_number(&mut out, info)?;
+    out.push(b'\n')?;
+    Ok(out)
+}
+
+/// How many words of a matrix were found wrong: `pverify`, the matrix, `wrong` and the number.
+pub fn wrong_text(alloc: Global, name: &str, count: usize) -> Result<Vec<u8>, NoMemory>
+    ensures { IfOk result (λ v. v.items ≡ wrong_text name.now count) }
+{
+    let mut out = b"pverify ".to_vec(alloc)?;
+    out.extend_from_slice(name.as_bytes())?;
+    out.extend_from_slice(b" wrong ")?;
+    add_count(&mut out, count)?;
     out.push(b'\n')?;
     Ok(out)
 }

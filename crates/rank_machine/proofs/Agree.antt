@@ -10,7 +10,8 @@ use Rattle.rank_machine.specs.declared.slot.Tile.TheVariants.{Words, Index}
 use Rattle.rank_machine.specs.declared.mark.Mark.{Mark}
 use Rattle.rank_machine.specs.declared.record.Rec.{Rec}
 use Rattle.rank_machine.specs.declared.record.Rec.TheVariants as r
-use Rattle.rank_machine.specs.Setting.{Layout, Job, Setting, all_below, all_jobs, grid_of_rank, no_job, job_in, layout, is_matrix, factored, group_count, strip_rows, block_at, global_col}
+use Rattle.rank_machine.specs.declared.layout.Layout.{Layout}
+use Rattle.rank_machine.specs.Setting.{Job, Setting, all_below, all_jobs, grid_of_rank, no_job, job_in, layout, is_matrix, factored, group_count, strip_rows, block_at, global_col}
 use Rattle.rank_machine.specs.State.{State, opened}
 use Rattle.rank_machine.specs.Effect.{numbers_of, is_index, has_ended, is_live_matrix, is_live_list, after}
 use Rattle.rank_machine.specs.CodeLaw.{slot_at, has_low, has_open, is_open_group, data_word, code_word, symbol, weighted_sum, is_multiplier, is_open_column, is_strip_of, IsPlace, MatrixLaw, ListLaw, pivots_of, CodeLaw}

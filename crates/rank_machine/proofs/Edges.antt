@@ -1,5 +1,5 @@
 -- Edges: two grids, repeated losses, losses at the end, links above 1, words held.
-use Rattle.std.proofs.Common.{◌≡◌, ◌∷◌, ℕ, true, false, Some, List, refl, []}
+use Rattle.std.proofs.Common.{◌≡◌, ◌++◌, ◌∷◌, ℕ, true, false, Some, List, refl, []}
 use Rattle.field_core.specs.Sums.{sum_to}
 use Rattle.run_data.specs.Matrix.{Matrix, entry, tabulate}
 use Rattle.run_data.specs.Parts.{patched}
@@ -16,7 +16,8 @@ use Rattle.rank_machine.specs.Losses.{AreDue, is_beyond_at, last_ended}
 use Rattle.rank_machine.specs.Held.{most_words}
 use Rattle.field_core.proofs.Computing.{quick_inverse, inverse_walk}
 use Rattle.local_blas.specs.Kernels.{substituted, solution}
-use Rattle.rank_machine.proofs.Terms.{setting_with, legal_by_quick, no_matrix, d, w, mark, by_line}
+use Rattle.rank_machine.proofs.Terms.{by_line, d, legal_by_quick, mark, no_matrix, setting_with, w}
+use Rattle.rank_machine.proofs.Parts.{fed}
 
 abbrev pub script_grids : List Numbered
 script_grids = commands_of (
@@ -32,8 +33,7 @@ files_grids = λ line. by_line 3 line (record { rows = 2; columns = ((7 ∷ 8 �
 
 abbrev pub journal_grids : List Rec
 journal_grids =
-    r.Feed 1 (d 3 0) ∷
-    r.Feed 2 (d 3 0) ∷
+    fed (1 ∷ 2 ∷ []) (d 3 0) ++
     r.Commit (mark 3 true 0 false 0) false ∷
     r.Lose 0 ∷
     r.Lose 0 ∷

@@ -1,12 +1,9 @@
 -- A factorization with a column without a pivot: worked journals, 378 records.
-use Rattle.std.proofs.Common.{◌∷◌, ℕ, true, false, Some, List, refl, []}
+use Rattle.std.proofs.Common.{◌∷◌, ◌++◌, ℕ, true, false, List, refl, []}
 use Rattle.field_core.specs.Sums.{sum_to}
 use Rattle.run_data.specs.Matrix.{Matrix, entry, tabulate}
 use Rattle.run_data.specs.Parts.{patched}
-use Rattle.run_data.specs.declared.command.Command.TheVariants as c
-use Rattle.run_data.specs.Script.{commands_of, Numbered}
 use Rattle.rank_machine.specs.declared.slot.Piece.TheVariants as piece
-use Rattle.rank_machine.specs.declared.kernel.Cut.TheVariants as cut
 use Rattle.rank_machine.specs.declared.kernel.Kernel.TheVariants as k
 use Rattle.rank_machine.specs.declared.record.Rec.{Rec}
 use Rattle.rank_machine.specs.declared.record.Rec.TheVariants as r
@@ -15,407 +12,71 @@ use Rattle.rank_machine.specs.Legal.{IsLegal}
 use Rattle.rank_machine.specs.Losses.{AreDue}
 use Rattle.field_core.proofs.Computing.{quick_inverse, inverse_walk}
 use Rattle.local_blas.specs.Kernels.{substituted, solution}
-use Rattle.rank_machine.proofs.Terms.{setting_with, legal_by_quick, no_matrix, d, o, v, w, co, lo, mark, rect, by_line}
-
-abbrev pub script_factored_singular : List Numbered
-script_factored_singular = commands_of (
-    Some (c.Grid (103 ∷ []) 2 2 1) ∷
-    Some (c.Matrix (65 ∷ []) (103 ∷ []) 3 3 1 1 0 0 (97 ∷ [])) ∷
-    Some (c.Pgetrf 3 3 (65 ∷ []) 1 1 (86 ∷ [])) ∷
-    Some (c.Pivots (86 ∷ [])) ∷
-    Some (c.Print (65 ∷ [])) ∷ [])
+use Rattle.rank_machine.proofs.Terms.{by_line, co, d, legal_by_quick, mark, no_matrix, rect, setting_with, v, w}
+use Rattle.rank_machine.proofs.Parts.{handed_back, handed_on, opened_to, row_subtracted, saved_row, saved_strips, solved_row}
+use Rattle.rank_machine.proofs.Factored.{factored_last, panel_found, script_factored, second_found}
 
 abbrev pub files_factored_singular : ℕ → Matrix
 files_factored_singular = λ line. by_line 2 line (record { rows = 3; columns = ((1 ∷ 1 ∷ 2 ∷ []) ∷ (2 ∷ 2 ∷ 4 ∷ []) ∷ (3 ∷ 4 ∷ 9 ∷ []) ∷ []) }) (no_matrix)
 
 abbrev pub setting_factored_singular : Setting
-setting_factored_singular = setting_with script_factored_singular files_factored_singular
+setting_factored_singular = setting_with script_factored files_factored_singular
 
 abbrev pub journal_factored_singular : List Rec
 journal_factored_singular =
-    r.Feed 0 (d 2 0) ∷
-    r.Feed 1 (d 2 0) ∷
-    r.Feed 3 (d 2 0) ∷
-    r.Feed 4 (d 2 0) ∷
-    r.Feed 0 (d 2 1) ∷
-    r.Feed 1 (d 2 1) ∷
-    r.Feed 3 (d 2 1) ∷
-    r.Feed 4 (d 2 1) ∷
-    r.Send 0 2 (piece.Whole (d 2 0)) ∷
-    r.Send 1 2 (piece.Whole (d 2 0)) ∷
-    r.Kernel 2 (k.Zero (co 2 0) 2 1) ∷
-    r.Recv 2 0 (piece.Whole (w 0 0)) ∷
-    r.Kernel 2 (k.Add (piece.Whole (co 2 0)) 32769 (piece.Whole (w 0 0)) cut.Whole) ∷
-    r.Recv 2 1 (piece.Whole (w 0 0)) ∷
-    r.Kernel 2 (k.Add (piece.Whole (co 2 0)) 1 (piece.Whole (w 0 0)) cut.Whole) ∷
-    r.Send 3 5 (piece.Whole (d 2 0)) ∷
-    r.Send 4 5 (piece.Whole (d 2 0)) ∷
-    r.Kernel 5 (k.Zero (co 2 0) 1 1) ∷
-    r.Recv 5 3 (piece.Whole (w 0 0)) ∷
-    r.Kernel 5 (k.Add (piece.Whole (co 2 0)) 32769 (piece.Whole (w 0 0)) cut.Whole) ∷
-    r.Recv 5 4 (piece.Whole (w 0 0)) ∷
-    r.Kernel 5 (k.Add (piece.Whole (co 2 0)) 1 (piece.Whole (w 0 0)) cut.Whole) ∷
-    r.Send 0 2 (piece.Whole (d 2 1)) ∷
-    r.Send 1 2 (piece.Whole (d 2 1)) ∷
-    r.Kernel 2 (k.Zero (co 2 1) 2 1) ∷
-    r.Recv 2 0 (piece.Whole (w 0 0)) ∷
-    r.Kernel 2 (k.Add (piece.Whole (co 2 1)) 32769 (piece.Whole (w 0 0)) cut.Whole) ∷
-    r.Recv 2 1 (piece.Whole (w 0 0)) ∷
-    r.Kernel 2 (k.Add (piece.Whole (co 2 1)) 1 (piece.Whole (w 0 0)) cut.Whole) ∷
-    r.Send 3 5 (piece.Whole (d 2 1)) ∷
-    r.Send 4 5 (piece.Whole (d 2 1)) ∷
-    r.Kernel 5 (k.Zero (co 2 1) 1 1) ∷
-    r.Recv 5 3 (piece.Whole (w 0 0)) ∷
-    r.Kernel 5 (k.Add (piece.Whole (co 2 1)) 32769 (piece.Whole (w 0 0)) cut.Whole) ∷
-    r.Recv 5 4 (piece.Whole (w 0 0)) ∷
-    r.Kernel 5 (k.Add (piece.Whole (co 2 1)) 1 (piece.Whole (w 0 0)) cut.Whole) ∷
-    r.Commit (mark 2 true 0 false 0) false ∷
-    r.Kernel 0 (k.Zero (v 3 0) 0 0) ∷
-    r.Kernel 1 (k.Zero (v 3 0) 0 0) ∷
-    r.Kernel 2 (k.Zero (v 3 0) 0 0) ∷
-    r.Kernel 2 (k.Zero (lo 2 0) 2 1) ∷
-    r.Kernel 2 (k.Zero (lo 2 1) 2 1) ∷
-    r.Kernel 3 (k.Zero (v 3 0) 0 0) ∷
-    r.Kernel 4 (k.Zero (v 3 0) 0 0) ∷
-    r.Kernel 5 (k.Zero (v 3 0) 0 0) ∷
-    r.Kernel 5 (k.Zero (lo 2 0) 1 1) ∷
-    r.Kernel 5 (k.Zero (lo 2 1) 1 1) ∷
-    r.Commit (mark 3 false 0 false 0) false ∷
-    r.Save 0 (d 2 0) ∷
-    r.Save 3 (d 2 0) ∷
-    r.Save 2 (co 2 0) ∷
-    r.Save 5 (co 2 0) ∷
-    r.Save 0 (v 3 0) ∷
-    r.Save 1 (v 3 0) ∷
-    r.Save 2 (v 3 0) ∷
-    r.Save 3 (v 3 0) ∷
-    r.Save 4 (v 3 0) ∷
-    r.Save 5 (v 3 0) ∷
-    r.Send 0 2 (piece.Whole (d 2 0)) ∷
-    r.Kernel 0 (k.First (w 0 0) (piece.Whole (d 2 0)) 0 0) ∷
-    r.Recv 2 0 (piece.Whole (w 0 0)) ∷
-    r.Kernel 2 (k.Add (piece.Whole (co 2 0)) 32768 (piece.Whole (w 0 0)) cut.Whole) ∷
-    r.Send 3 5 (piece.Whole (d 2 0)) ∷
-    r.Kernel 3 (k.First (w 0 0) (piece.Whole (d 2 0)) 0 0) ∷
-    r.Send 3 0 (piece.Whole (w 0 0)) ∷
-    r.Recv 0 3 (piece.Whole (w 1 0)) ∷
-    r.Kernel 0 (k.Least (w 0 0) (piece.Whole (w 1 0))) ∷
-    r.Send 0 3 (piece.Whole (w 0 0)) ∷
-    r.Recv 3 0 (piece.Whole (w 0 0)) ∷
-    r.Recv 5 3 (piece.Whole (w 0 0)) ∷
-    r.Kernel 5 (k.Add (piece.Whole (co 2 0)) 32768 (piece.Whole (w 0 0)) cut.Whole) ∷
-    r.Take 0 (w 0 0) ∷
-    r.Kernel 0 (k.Push (v 3 0) (piece.Whole (w 0 0)) 0) ∷
+    panel_found 1 ++
     r.Kernel 0 (k.Copy (piece.Whole (w 3 0)) (piece.Part (d 2 0) (rect 0 1 0 1))) ∷
     r.Send 0 3 (piece.Whole (w 3 0)) ∷
     r.Kernel 0 (k.Elim (d 2 0) 0 0 (piece.Whole (w 3 0))) ∷
-    r.Send 0 2 (piece.Whole (d 2 0)) ∷
-    r.Send 0 1 (piece.Whole (v 3 0)) ∷
-    r.Recv 1 0 (piece.Whole (v 3 0)) ∷
-    r.Send 1 2 (piece.Whole (v 3 0)) ∷
-    r.Recv 2 0 (piece.Whole (o 2 0)) ∷
-    r.Kernel 2 (k.Scale (piece.Whole (o 2 0)) 32769) ∷
-    r.Recv 2 1 (piece.Whole (v 3 0)) ∷
+    handed_on 0 2 0 3 32769 ++
     r.Kernel 3 (k.Push (v 3 0) (piece.Whole (w 0 0)) 0) ∷
     r.Recv 3 0 (piece.Whole (w 3 0)) ∷
     r.Kernel 3 (k.Elim (d 2 0) 0 0 (piece.Whole (w 3 0))) ∷
-    r.Send 3 5 (piece.Whole (d 2 0)) ∷
-    r.Send 3 4 (piece.Whole (v 3 0)) ∷
-    r.Recv 4 3 (piece.Whole (v 3 0)) ∷
-    r.Send 4 5 (piece.Whole (v 3 0)) ∷
-    r.Recv 5 3 (piece.Whole (o 2 0)) ∷
-    r.Kernel 5 (k.Scale (piece.Whole (o 2 0)) 32769) ∷
-    r.Recv 5 4 (piece.Whole (v 3 0)) ∷
+    handed_on 3 2 0 3 32769 ++
     r.Commit (mark 3 false 0 true 0) false ∷
-    r.Save 1 (d 2 0) ∷
-    r.Save 2 (co 2 0) ∷
-    r.Save 2 (lo 2 0) ∷
-    r.Save 4 (d 2 0) ∷
-    r.Save 5 (co 2 0) ∷
-    r.Save 5 (lo 2 0) ∷
+    saved_strips 1 2 2 0 ++
+    saved_strips 4 5 2 0 ++
     r.Send 0 1 (piece.Whole (d 2 0)) ∷
     r.Recv 1 0 (piece.Whole (w 0 0)) ∷
     r.Send 1 2 (piece.Whole (w 0 0)) ∷
-    r.Kernel 1 (k.Lower (piece.Part (d 2 0) (rect 0 1 0 1)) (piece.Part (w 0 0) (rect 0 1 0 1)) true) ∷
-    r.Kernel 1 (k.Copy (piece.Whole (w 1 0)) (piece.Part (d 2 0) (rect 0 1 0 1))) ∷
-    r.Send 1 4 (piece.Whole (w 1 0)) ∷
+    solved_row 1 4 (d 2 0) (w 0 0) ++
     r.Kernel 1 (k.MulAdd (piece.Part (d 2 0) (rect 1 2 0 1)) 65536 (piece.Part (w 0 0) (rect 1 2 0 1)) (piece.Whole (w 1 0))) ∷
     r.Recv 2 1 (piece.Whole (w 0 0)) ∷
-    r.Kernel 2 (k.Lower (piece.Part (co 2 0) (rect 0 1 0 1)) (piece.Part (w 0 0) (rect 0 1 0 1)) true) ∷
-    r.Kernel 2 (k.Copy (piece.Whole (w 1 0)) (piece.Part (co 2 0) (rect 0 1 0 1))) ∷
-    r.Send 2 5 (piece.Whole (w 1 0)) ∷
+    solved_row 2 5 (co 2 0) (w 0 0) ++
     r.Kernel 2 (k.MulAdd (piece.Part (co 2 0) (rect 1 2 0 1)) 65536 (piece.Part (w 0 0) (rect 1 2 0 1)) (piece.Whole (w 1 0))) ∷
-    r.Kernel 2 (k.Add (piece.Whole (co 2 0)) 1 (piece.Whole (o 2 0)) (cut.Upper 0)) ∷
-    r.Kernel 2 (k.Add (piece.Whole (lo 2 0)) 1 (piece.Whole (o 2 0)) (cut.Lower 0)) ∷
+    opened_to 2 2 0 0 ++
     r.Send 3 4 (piece.Whole (d 2 0)) ∷
     r.Recv 4 3 (piece.Whole (w 0 0)) ∷
     r.Send 4 5 (piece.Whole (w 0 0)) ∷
-    r.Recv 4 1 (piece.Whole (w 1 0)) ∷
-    r.Kernel 4 (k.MulAdd (piece.Part (d 2 0) (rect 0 1 0 1)) 65536 (piece.Part (w 0 0) (rect 0 1 0 1)) (piece.Whole (w 1 0))) ∷
-    r.Recv 5 4 (piece.Whole (w 0 0)) ∷
-    r.Recv 5 2 (piece.Whole (w 1 0)) ∷
-    r.Kernel 5 (k.MulAdd (piece.Part (co 2 0) (rect 0 1 0 1)) 65536 (piece.Part (w 0 0) (rect 0 1 0 1)) (piece.Whole (w 1 0))) ∷
-    r.Kernel 5 (k.Add (piece.Whole (co 2 0)) 1 (piece.Whole (o 2 0)) (cut.Upper 0)) ∷
-    r.Kernel 5 (k.Add (piece.Whole (lo 2 0)) 1 (piece.Whole (o 2 0)) (cut.Lower 0)) ∷
-    r.Commit (mark 3 false 1 false 0) false ∷
-    r.Save 1 (d 2 0) ∷
-    r.Save 4 (d 2 0) ∷
-    r.Save 2 (co 2 0) ∷
-    r.Save 5 (co 2 0) ∷
-    r.Save 0 (v 3 0) ∷
-    r.Save 1 (v 3 0) ∷
-    r.Save 2 (v 3 0) ∷
-    r.Save 3 (v 3 0) ∷
-    r.Save 4 (v 3 0) ∷
-    r.Save 5 (v 3 0) ∷
-    r.Send 1 2 (piece.Whole (d 2 0)) ∷
-    r.Kernel 1 (k.First (w 0 0) (piece.Whole (d 2 0)) 0 1) ∷
-    r.Recv 2 1 (piece.Whole (w 0 0)) ∷
-    r.Kernel 2 (k.Add (piece.Whole (co 2 0)) 65536 (piece.Whole (w 0 0)) cut.Whole) ∷
-    r.Send 4 5 (piece.Whole (d 2 0)) ∷
-    r.Kernel 4 (k.First (w 0 0) (piece.Whole (d 2 0)) 0 1) ∷
-    r.Send 4 1 (piece.Whole (w 0 0)) ∷
-    r.Recv 1 4 (piece.Whole (w 1 0)) ∷
-    r.Kernel 1 (k.Least (w 0 0) (piece.Whole (w 1 0))) ∷
-    r.Send 1 4 (piece.Whole (w 0 0)) ∷
-    r.Recv 4 1 (piece.Whole (w 0 0)) ∷
-    r.Recv 5 4 (piece.Whole (w 0 0)) ∷
-    r.Kernel 5 (k.Add (piece.Whole (co 2 0)) 65536 (piece.Whole (w 0 0)) cut.Whole) ∷
-    r.Take 1 (w 0 0) ∷
+    row_subtracted 4 1 0 (d 2 0) (w 0 0) ++
+    second_found 1 ++
     r.Kernel 1 (k.Push (v 3 0) (piece.Whole (w 0 0)) 1) ∷
-    r.Send 1 2 (piece.Whole (d 2 0)) ∷
-    r.Recv 2 1 (piece.Whole (o 2 0)) ∷
-    r.Send 1 2 (piece.Whole (v 3 0)) ∷
-    r.Kernel 2 (k.Scale (piece.Whole (o 2 0)) 1) ∷
-    r.Recv 2 1 (piece.Whole (v 3 0)) ∷
-    r.Send 2 0 (piece.Whole (v 3 0)) ∷
-    r.Recv 0 2 (piece.Whole (v 3 0)) ∷
+    handed_back 0 2 0 3 1 ++
     r.Kernel 4 (k.Push (v 3 0) (piece.Whole (w 0 0)) 1) ∷
-    r.Send 4 5 (piece.Whole (d 2 0)) ∷
-    r.Recv 5 4 (piece.Whole (o 2 0)) ∷
-    r.Send 4 5 (piece.Whole (v 3 0)) ∷
-    r.Kernel 5 (k.Scale (piece.Whole (o 2 0)) 1) ∷
-    r.Recv 5 4 (piece.Whole (v 3 0)) ∷
-    r.Send 5 3 (piece.Whole (v 3 0)) ∷
-    r.Recv 3 5 (piece.Whole (v 3 0)) ∷
+    handed_back 3 2 0 3 1 ++
     r.Commit (mark 3 false 1 true 0) false ∷
-    r.Save 0 (d 2 1) ∷
-    r.Save 1 (d 2 1) ∷
-    r.Save 2 (co 2 1) ∷
-    r.Save 2 (lo 2 1) ∷
-    r.Save 3 (d 2 1) ∷
-    r.Save 4 (d 2 1) ∷
-    r.Save 5 (co 2 1) ∷
-    r.Save 5 (lo 2 1) ∷
+    saved_row 0 2 1 ++
+    saved_row 3 2 1 ++
     r.Send 0 1 (piece.Whole (d 2 0)) ∷
-    r.Kernel 0 (k.Lower (piece.Part (d 2 1) (rect 0 1 0 1)) (piece.Part (d 2 0) (rect 0 1 0 1)) true) ∷
-    r.Kernel 0 (k.Copy (piece.Whole (w 1 0)) (piece.Part (d 2 1) (rect 0 1 0 1))) ∷
-    r.Send 0 3 (piece.Whole (w 1 0)) ∷
+    solved_row 0 3 (d 2 1) (d 2 0) ++
     r.Kernel 0 (k.MulAdd (piece.Part (d 2 1) (rect 1 2 0 1)) 65536 (piece.Part (d 2 0) (rect 1 2 0 1)) (piece.Whole (w 1 0))) ∷
     r.Recv 1 0 (piece.Whole (w 0 0)) ∷
     r.Send 1 2 (piece.Whole (w 0 0)) ∷
-    r.Kernel 1 (k.Lower (piece.Part (d 2 1) (rect 0 1 0 1)) (piece.Part (w 0 0) (rect 0 1 0 1)) true) ∷
-    r.Kernel 1 (k.Copy (piece.Whole (w 1 0)) (piece.Part (d 2 1) (rect 0 1 0 1))) ∷
-    r.Send 1 4 (piece.Whole (w 1 0)) ∷
+    solved_row 1 4 (d 2 1) (w 0 0) ++
     r.Kernel 1 (k.MulAdd (piece.Part (d 2 1) (rect 1 2 0 1)) 65536 (piece.Part (w 0 0) (rect 1 2 0 1)) (piece.Whole (w 1 0))) ∷
     r.Recv 2 1 (piece.Whole (w 0 0)) ∷
-    r.Kernel 2 (k.Lower (piece.Part (co 2 1) (rect 0 1 0 1)) (piece.Part (w 0 0) (rect 0 1 0 1)) true) ∷
-    r.Kernel 2 (k.Copy (piece.Whole (w 1 0)) (piece.Part (co 2 1) (rect 0 1 0 1))) ∷
-    r.Send 2 5 (piece.Whole (w 1 0)) ∷
+    solved_row 2 5 (co 2 1) (w 0 0) ++
     r.Kernel 2 (k.MulAdd (piece.Part (co 2 1) (rect 1 2 0 1)) 65536 (piece.Part (w 0 0) (rect 1 2 0 1)) (piece.Whole (w 1 0))) ∷
     r.Send 3 4 (piece.Whole (d 2 0)) ∷
-    r.Recv 3 0 (piece.Whole (w 1 0)) ∷
-    r.Kernel 3 (k.MulAdd (piece.Part (d 2 1) (rect 0 1 0 1)) 65536 (piece.Part (d 2 0) (rect 0 1 0 1)) (piece.Whole (w 1 0))) ∷
+    row_subtracted 3 0 0 (d 2 1) (d 2 0) ++
     r.Recv 4 3 (piece.Whole (w 0 0)) ∷
     r.Send 4 5 (piece.Whole (w 0 0)) ∷
-    r.Recv 4 1 (piece.Whole (w 1 0)) ∷
-    r.Kernel 4 (k.MulAdd (piece.Part (d 2 1) (rect 0 1 0 1)) 65536 (piece.Part (w 0 0) (rect 0 1 0 1)) (piece.Whole (w 1 0))) ∷
-    r.Recv 5 4 (piece.Whole (w 0 0)) ∷
-    r.Recv 5 2 (piece.Whole (w 1 0)) ∷
-    r.Kernel 5 (k.MulAdd (piece.Part (co 2 1) (rect 0 1 0 1)) 65536 (piece.Part (w 0 0) (rect 0 1 0 1)) (piece.Whole (w 1 0))) ∷
-    r.Commit (mark 3 false 1 true 0) false ∷
-    r.Save 0 (d 2 0) ∷
-    r.Save 2 (co 2 0) ∷
-    r.Save 2 (lo 2 0) ∷
-    r.Save 3 (d 2 0) ∷
-    r.Save 5 (co 2 0) ∷
-    r.Save 5 (lo 2 0) ∷
-    r.Send 1 2 (piece.Whole (d 2 0)) ∷
-    r.Recv 2 1 (piece.Whole (w 0 0)) ∷
-    r.Send 2 0 (piece.Whole (w 0 0)) ∷
-    r.Recv 0 2 (piece.Whole (w 0 0)) ∷
-    r.Send 4 5 (piece.Whole (d 2 0)) ∷
-    r.Recv 5 4 (piece.Whole (w 0 0)) ∷
-    r.Send 5 3 (piece.Whole (w 0 0)) ∷
-    r.Recv 3 5 (piece.Whole (w 0 0)) ∷
-    r.Kernel 5 (k.Lower (piece.Part (co 2 0) (rect 0 1 0 1)) (piece.Part (w 0 0) (rect 0 1 0 1)) true) ∷
-    r.Kernel 5 (k.Copy (piece.Whole (w 1 0)) (piece.Part (co 2 0) (rect 0 1 0 1))) ∷
-    r.Send 5 2 (piece.Whole (w 1 0)) ∷
-    r.Recv 2 5 (piece.Whole (w 1 0)) ∷
-    r.Kernel 2 (k.MulAdd (piece.Part (co 2 0) (rect 1 2 0 1)) 65536 (piece.Part (w 0 0) (rect 1 2 0 1)) (piece.Whole (w 1 0))) ∷
-    r.Kernel 2 (k.Add (piece.Whole (co 2 0)) 1 (piece.Whole (o 2 0)) (cut.Upper 1)) ∷
-    r.Kernel 2 (k.Add (piece.Whole (lo 2 0)) 1 (piece.Whole (o 2 0)) (cut.Lower 1)) ∷
-    r.Kernel 5 (k.Add (piece.Whole (co 2 0)) 1 (piece.Whole (o 2 0)) (cut.Upper 1)) ∷
-    r.Kernel 5 (k.Add (piece.Whole (lo 2 0)) 1 (piece.Whole (o 2 0)) (cut.Lower 1)) ∷
-    r.Commit (mark 3 false 2 false 0) false ∷
-    r.Save 0 (d 2 1) ∷
-    r.Save 1 (d 2 1) ∷
-    r.Save 2 (co 2 1) ∷
-    r.Save 2 (lo 2 1) ∷
-    r.Save 3 (d 2 1) ∷
-    r.Save 4 (d 2 1) ∷
-    r.Save 5 (co 2 1) ∷
-    r.Save 5 (lo 2 1) ∷
-    r.Send 1 2 (piece.Whole (d 2 0)) ∷
-    r.Recv 2 1 (piece.Whole (w 0 0)) ∷
-    r.Send 2 0 (piece.Whole (w 0 0)) ∷
-    r.Recv 0 2 (piece.Whole (w 0 0)) ∷
-    r.Send 4 5 (piece.Whole (d 2 0)) ∷
-    r.Kernel 4 (k.Lower (piece.Part (d 2 1) (rect 0 1 0 1)) (piece.Part (d 2 0) (rect 0 1 0 1)) true) ∷
-    r.Kernel 4 (k.Copy (piece.Whole (w 1 0)) (piece.Part (d 2 1) (rect 0 1 0 1))) ∷
-    r.Send 4 1 (piece.Whole (w 1 0)) ∷
-    r.Recv 1 4 (piece.Whole (w 1 0)) ∷
-    r.Kernel 1 (k.MulAdd (piece.Part (d 2 1) (rect 1 2 0 1)) 65536 (piece.Part (d 2 0) (rect 1 2 0 1)) (piece.Whole (w 1 0))) ∷
-    r.Recv 5 4 (piece.Whole (w 0 0)) ∷
-    r.Send 5 3 (piece.Whole (w 0 0)) ∷
-    r.Recv 3 5 (piece.Whole (w 0 0)) ∷
-    r.Kernel 3 (k.Lower (piece.Part (d 2 1) (rect 0 1 0 1)) (piece.Part (w 0 0) (rect 0 1 0 1)) true) ∷
-    r.Kernel 3 (k.Copy (piece.Whole (w 1 0)) (piece.Part (d 2 1) (rect 0 1 0 1))) ∷
-    r.Send 3 0 (piece.Whole (w 1 0)) ∷
-    r.Recv 0 3 (piece.Whole (w 1 0)) ∷
-    r.Kernel 0 (k.MulAdd (piece.Part (d 2 1) (rect 1 2 0 1)) 65536 (piece.Part (w 0 0) (rect 1 2 0 1)) (piece.Whole (w 1 0))) ∷
-    r.Kernel 5 (k.Lower (piece.Part (co 2 1) (rect 0 1 0 1)) (piece.Part (w 0 0) (rect 0 1 0 1)) true) ∷
-    r.Kernel 5 (k.Copy (piece.Whole (w 1 0)) (piece.Part (co 2 1) (rect 0 1 0 1))) ∷
-    r.Send 5 2 (piece.Whole (w 1 0)) ∷
-    r.Recv 2 5 (piece.Whole (w 1 0)) ∷
-    r.Kernel 2 (k.MulAdd (piece.Part (co 2 1) (rect 1 2 0 1)) 65536 (piece.Part (w 0 0) (rect 1 2 0 1)) (piece.Whole (w 1 0))) ∷
-    r.Commit (mark 3 false 2 false 0) false ∷
-    r.Save 0 (d 2 1) ∷
-    r.Save 3 (d 2 1) ∷
-    r.Save 2 (co 2 1) ∷
-    r.Save 5 (co 2 1) ∷
-    r.Save 0 (v 3 0) ∷
-    r.Save 1 (v 3 0) ∷
-    r.Save 2 (v 3 0) ∷
-    r.Save 3 (v 3 0) ∷
-    r.Save 4 (v 3 0) ∷
-    r.Save 5 (v 3 0) ∷
-    r.Send 0 2 (piece.Whole (d 2 1)) ∷
-    r.Kernel 0 (k.First (w 0 0) (piece.Whole (d 2 1)) 0 2) ∷
-    r.Recv 2 0 (piece.Whole (w 0 0)) ∷
-    r.Kernel 2 (k.Add (piece.Whole (co 2 1)) 32768 (piece.Whole (w 0 0)) cut.Whole) ∷
-    r.Send 3 5 (piece.Whole (d 2 1)) ∷
-    r.Kernel 3 (k.First (w 0 0) (piece.Whole (d 2 1)) 0 2) ∷
-    r.Send 3 0 (piece.Whole (w 0 0)) ∷
-    r.Recv 0 3 (piece.Whole (w 1 0)) ∷
-    r.Kernel 0 (k.Least (w 0 0) (piece.Whole (w 1 0))) ∷
-    r.Send 0 3 (piece.Whole (w 0 0)) ∷
-    r.Recv 3 0 (piece.Whole (w 0 0)) ∷
-    r.Recv 5 3 (piece.Whole (w 0 0)) ∷
-    r.Kernel 5 (k.Add (piece.Whole (co 2 1)) 32768 (piece.Whole (w 0 0)) cut.Whole) ∷
-    r.Take 0 (w 0 0) ∷
-    r.Kernel 0 (k.Push (v 3 0) (piece.Whole (w 0 0)) 2) ∷
-    r.Kernel 0 (k.Copy (piece.Whole (w 3 0)) (piece.Part (d 2 1) (rect 1 2 0 1))) ∷
-    r.Send 0 3 (piece.Whole (w 3 0)) ∷
-    r.Kernel 0 (k.Elim (d 2 1) 0 2 (piece.Whole (w 3 0))) ∷
-    r.Send 0 2 (piece.Whole (d 2 1)) ∷
-    r.Send 0 1 (piece.Whole (v 3 0)) ∷
-    r.Recv 1 0 (piece.Whole (v 3 0)) ∷
-    r.Send 1 2 (piece.Whole (v 3 0)) ∷
-    r.Recv 2 0 (piece.Whole (o 2 0)) ∷
-    r.Kernel 2 (k.Scale (piece.Whole (o 2 0)) 32769) ∷
-    r.Recv 2 1 (piece.Whole (v 3 0)) ∷
-    r.Kernel 3 (k.Push (v 3 0) (piece.Whole (w 0 0)) 2) ∷
-    r.Recv 3 0 (piece.Whole (w 3 0)) ∷
-    r.Kernel 3 (k.Elim (d 2 1) 0 2 (piece.Whole (w 3 0))) ∷
-    r.Send 3 5 (piece.Whole (d 2 1)) ∷
-    r.Send 3 4 (piece.Whole (v 3 0)) ∷
-    r.Recv 4 3 (piece.Whole (v 3 0)) ∷
-    r.Send 4 5 (piece.Whole (v 3 0)) ∷
-    r.Recv 5 3 (piece.Whole (o 2 0)) ∷
-    r.Kernel 5 (k.Scale (piece.Whole (o 2 0)) 32769) ∷
-    r.Recv 5 4 (piece.Whole (v 3 0)) ∷
-    r.Commit (mark 3 false 2 true 0) false ∷
-    r.Save 1 (d 2 1) ∷
-    r.Save 2 (co 2 1) ∷
-    r.Save 2 (lo 2 1) ∷
-    r.Save 4 (d 2 1) ∷
-    r.Save 5 (co 2 1) ∷
-    r.Save 5 (lo 2 1) ∷
-    r.Send 0 1 (piece.Whole (d 2 1)) ∷
-    r.Recv 1 0 (piece.Whole (w 0 0)) ∷
-    r.Send 1 2 (piece.Whole (w 0 0)) ∷
-    r.Kernel 1 (k.Lower (piece.Part (d 2 1) (rect 1 2 0 1)) (piece.Part (w 0 0) (rect 1 2 0 1)) true) ∷
-    r.Recv 2 1 (piece.Whole (w 0 0)) ∷
-    r.Kernel 2 (k.Lower (piece.Part (co 2 1) (rect 1 2 0 1)) (piece.Part (w 0 0) (rect 1 2 0 1)) true) ∷
-    r.Kernel 2 (k.Add (piece.Whole (co 2 1)) 1 (piece.Whole (o 2 0)) (cut.Upper 2)) ∷
-    r.Kernel 2 (k.Add (piece.Whole (lo 2 1)) 1 (piece.Whole (o 2 0)) (cut.Lower 2)) ∷
-    r.Send 3 4 (piece.Whole (d 2 1)) ∷
-    r.Recv 4 3 (piece.Whole (w 0 0)) ∷
-    r.Send 4 5 (piece.Whole (w 0 0)) ∷
-    r.Recv 5 4 (piece.Whole (w 0 0)) ∷
-    r.Kernel 5 (k.Add (piece.Whole (co 2 1)) 1 (piece.Whole (o 2 0)) (cut.Upper 2)) ∷
-    r.Kernel 5 (k.Add (piece.Whole (lo 2 1)) 1 (piece.Whole (o 2 0)) (cut.Lower 2)) ∷
-    r.Commit (mark 3 false 3 false 0) false ∷
-    r.Save 0 (d 2 0) ∷
-    r.Save 1 (d 2 0) ∷
-    r.Save 2 (co 2 0) ∷
-    r.Save 2 (lo 2 0) ∷
-    r.Save 3 (d 2 0) ∷
-    r.Save 4 (d 2 0) ∷
-    r.Save 5 (co 2 0) ∷
-    r.Save 5 (lo 2 0) ∷
-    r.Send 0 1 (piece.Whole (d 2 1)) ∷
-    r.Recv 1 0 (piece.Whole (w 0 0)) ∷
-    r.Send 1 2 (piece.Whole (w 0 0)) ∷
-    r.Recv 2 1 (piece.Whole (w 0 0)) ∷
-    r.Kernel 2 (k.Lower (piece.Part (co 2 0) (rect 1 2 0 1)) (piece.Part (w 0 0) (rect 1 2 0 1)) true) ∷
-    r.Send 3 4 (piece.Whole (d 2 1)) ∷
-    r.Recv 4 3 (piece.Whole (w 0 0)) ∷
-    r.Send 4 5 (piece.Whole (w 0 0)) ∷
-    r.Recv 5 4 (piece.Whole (w 0 0)) ∷
-    r.Commit (mark 3 false 3 false 0) false ∷
-    r.Save 2 (co 2 0) ∷
-    r.Save 5 (co 2 0) ∷
-    r.Kernel 2 (k.Add (piece.Whole (co 2 0)) 1 (piece.Whole (lo 2 0)) cut.Whole) ∷
-    r.Kernel 5 (k.Add (piece.Whole (co 2 0)) 1 (piece.Whole (lo 2 0)) cut.Whole) ∷
-    r.Commit (mark 3 false 3 false 1) false ∷
-    r.Save 2 (co 2 1) ∷
-    r.Save 5 (co 2 1) ∷
-    r.Kernel 2 (k.Add (piece.Whole (co 2 1)) 1 (piece.Whole (lo 2 1)) cut.Whole) ∷
-    r.Kernel 5 (k.Add (piece.Whole (co 2 1)) 1 (piece.Whole (lo 2 1)) cut.Whole) ∷
-    r.Commit (mark 3 false 3 false 2) false ∷
-    r.Kernel 0 (k.Diag (w 0 0) (piece.Whole (d 2 0)) 3) ∷
-    r.Kernel 1 (k.Diag (w 0 0) (piece.Whole (d 2 0)) 3) ∷
-    r.Kernel 3 (k.Diag (w 0 0) (piece.Whole (d 2 0)) 3) ∷
-    r.Kernel 4 (k.Diag (w 0 0) (piece.Whole (d 2 0)) 3) ∷
-    r.Send 4 3 (piece.Whole (w 0 0)) ∷
-    r.Recv 3 4 (piece.Whole (w 1 0)) ∷
-    r.Kernel 3 (k.Least (w 0 0) (piece.Whole (w 1 0))) ∷
-    r.Send 3 1 (piece.Whole (w 0 0)) ∷
-    r.Recv 1 3 (piece.Whole (w 1 0)) ∷
-    r.Kernel 1 (k.Least (w 0 0) (piece.Whole (w 1 0))) ∷
-    r.Send 1 0 (piece.Whole (w 0 0)) ∷
-    r.Recv 0 1 (piece.Whole (w 1 0)) ∷
-    r.Kernel 0 (k.Least (w 0 0) (piece.Whole (w 1 0))) ∷
-    r.Take 0 (w 0 0) ∷
-    r.Commit (mark 3 true 0 false 0) false ∷
-    r.Take 0 (v 3 0) ∷
-    r.Commit (mark 4 true 0 false 0) false ∷
-    r.Take 0 (d 2 0) ∷
-    r.Take 1 (d 2 0) ∷
-    r.Take 3 (d 2 0) ∷
-    r.Take 4 (d 2 0) ∷
-    r.Take 0 (d 2 1) ∷
-    r.Take 1 (d 2 1) ∷
-    r.Take 3 (d 2 1) ∷
-    r.Take 4 (d 2 1) ∷
-    r.Commit (mark 5 true 0 false 0) false ∷
-    []
+    row_subtracted 4 1 0 (d 2 1) (w 0 0) ++
+    factored_last
 
 legal_factored_singular : IsLegal setting_factored_singular journal_factored_singular
 unfolding entry tabulate patched sum_to substituted solution quick_inverse inverse_walk
-legal_factored_singular = legal_by_quick script_factored_singular files_factored_singular [] journal_factored_singular tt refl
+legal_factored_singular = legal_by_quick script_factored files_factored_singular [] journal_factored_singular tt refl
 
 due_factored_singular : AreDue setting_factored_singular false journal_factored_singular
 due_factored_singular = refl

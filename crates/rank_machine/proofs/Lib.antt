@@ -4,6 +4,7 @@ pub mod Agree
 pub mod Jobs
 mod Checks
 mod Terms
+mod Parts
 mod Smallest
 mod Decoded
 mod Factored

@@ -1,13 +1,11 @@
 -- A window copied from one grid to another, and strips with sources: worked journals, 193 records.
-use Rattle.std.proofs.Common.{◌∷◌, ℕ, true, false, Some, List, refl, []}
+use Rattle.std.proofs.Common.{◌∷◌, ◌++◌, ℕ, true, false, Some, List, refl, []}
 use Rattle.field_core.specs.Sums.{sum_to}
 use Rattle.run_data.specs.Matrix.{Matrix, entry, tabulate}
 use Rattle.run_data.specs.Parts.{patched}
 use Rattle.run_data.specs.declared.command.Command.TheVariants as c
 use Rattle.run_data.specs.Script.{commands_of, Numbered}
 use Rattle.rank_machine.specs.declared.slot.Piece.TheVariants as piece
-use Rattle.rank_machine.specs.declared.kernel.Cut.TheVariants as cut
-use Rattle.rank_machine.specs.declared.kernel.Kernel.TheVariants as k
 use Rattle.rank_machine.specs.declared.record.Rec.{Rec}
 use Rattle.rank_machine.specs.declared.record.Rec.TheVariants as r
 use Rattle.rank_machine.specs.Setting.{Setting}
@@ -15,7 +13,8 @@ use Rattle.rank_machine.specs.Legal.{IsLegal}
 use Rattle.rank_machine.specs.Losses.{AreDue}
 use Rattle.field_core.proofs.Computing.{quick_inverse, inverse_walk}
 use Rattle.local_blas.specs.Kernels.{substituted, solution}
-use Rattle.rank_machine.proofs.Terms.{setting_with, legal_by_quick, no_matrix, d, w, co, mark, rect, by_line}
+use Rattle.rank_machine.proofs.Terms.{by_line, d, legal_by_quick, mark, no_matrix, rect, setting_with}
+use Rattle.rank_machine.proofs.Parts.{coded_by_three, fed, saved, taken}
 
 abbrev pub script_redistributed : List Numbered
 script_redistributed = commands_of (
@@ -32,54 +31,47 @@ files_redistributed = λ line. by_line 3 line (record { rows = 3; columns = ((11
 abbrev pub setting_redistributed : Setting
 setting_redistributed = setting_with script_redistributed files_redistributed
 
-abbrev pub journal_redistributed : List Rec
-journal_redistributed =
-    r.Feed 0 (d 3 0) ∷
-    r.Feed 1 (d 3 0) ∷
-    r.Feed 2 (d 3 0) ∷
-    r.Feed 4 (d 3 0) ∷
-    r.Feed 5 (d 3 0) ∷
-    r.Feed 6 (d 3 0) ∷
-    r.Send 0 3 (piece.Whole (d 3 0)) ∷
-    r.Send 1 3 (piece.Whole (d 3 0)) ∷
-    r.Send 2 3 (piece.Whole (d 3 0)) ∷
-    r.Kernel 3 (k.Zero (co 3 0) 1 2) ∷
-    r.Recv 3 0 (piece.Whole (w 0 0)) ∷
-    r.Kernel 3 (k.Add (piece.Whole (co 3 0)) 21846 (piece.Whole (w 0 0)) cut.Whole) ∷
-    r.Recv 3 1 (piece.Whole (w 0 0)) ∷
-    r.Kernel 3 (k.Add (piece.Whole (co 3 0)) 32769 (piece.Whole (w 0 0)) cut.Whole) ∷
-    r.Recv 3 2 (piece.Whole (w 0 0)) ∷
-    r.Kernel 3 (k.Add (piece.Whole (co 3 0)) 1 (piece.Whole (w 0 0)) cut.Whole) ∷
-    r.Send 4 7 (piece.Whole (d 3 0)) ∷
-    r.Send 5 7 (piece.Whole (d 3 0)) ∷
-    r.Send 6 7 (piece.Whole (d 3 0)) ∷
-    r.Kernel 7 (k.Zero (co 3 0) 2 2) ∷
-    r.Recv 7 4 (piece.Whole (w 0 0)) ∷
-    r.Kernel 7 (k.Add (piece.Whole (co 3 0)) 21846 (piece.Whole (w 0 0)) cut.Whole) ∷
-    r.Recv 7 5 (piece.Whole (w 0 0)) ∷
-    r.Kernel 7 (k.Add (piece.Whole (co 3 0)) 32769 (piece.Whole (w 0 0)) cut.Whole) ∷
-    r.Recv 7 6 (piece.Whole (w 0 0)) ∷
-    r.Kernel 7 (k.Add (piece.Whole (co 3 0)) 1 (piece.Whole (w 0 0)) cut.Whole) ∷
+-- A is fed, up to its commit
+abbrev pub redistributed_fed : List Rec
+redistributed_fed =
+    fed (0 ∷ 1 ∷ 2 ∷ 4 ∷ 5 ∷ 6 ∷ []) (d 3 0) ++
+    coded_by_three 0 3 0 1 2 ++
+    coded_by_three 4 3 0 2 2
+
+-- A and B are fed
+abbrev pub redistributed_begun : List Rec
+redistributed_begun =
+    redistributed_fed ++
     r.Commit (mark 3 true 0 false 0) false ∷
-    r.Feed 8 (d 4 0) ∷
-    r.Feed 9 (d 4 0) ∷
-    r.Feed 10 (d 4 0) ∷
+    fed (8 ∷ 9 ∷ 10 ∷ []) (d 4 0) ++
     r.Commit (mark 4 true 0 false 0) false ∷
-    r.Save 8 (d 4 0) ∷
-    r.Save 9 (d 4 0) ∷
-    r.Save 10 (d 4 0) ∷
+    []
+
+-- A and B are fed, and the strips of B saved
+abbrev pub redistributed_saved : List Rec
+redistributed_saved =
+    redistributed_begun ++
+    saved (8 ∷ 9 ∷ 10 ∷ []) (d 4 0)
+
+-- the parts of the window are sent
+abbrev pub redistributed_sent : List Rec
+redistributed_sent =
     r.Send 0 8 (piece.Part (d 3 0) (rect 0 1 0 2)) ∷
     r.Send 2 8 (piece.Part (d 3 0) (rect 0 1 1 2)) ∷
     r.Send 4 8 (piece.Part (d 3 0) (rect 0 2 0 2)) ∷
     r.Send 6 8 (piece.Part (d 3 0) (rect 0 2 1 2)) ∷
+    []
+
+abbrev pub journal_redistributed : List Rec
+journal_redistributed =
+    redistributed_saved ++
+    redistributed_sent ++
     r.Recv 8 6 (piece.Part (d 4 0) (rect 0 2 0 1)) ∷
     r.Recv 8 2 (piece.Part (d 4 0) (rect 2 3 0 1)) ∷
     r.Recv 8 4 (piece.Part (d 4 0) (rect 0 2 1 3)) ∷
     r.Recv 8 0 (piece.Part (d 4 0) (rect 2 3 1 3)) ∷
     r.Commit (mark 5 true 0 false 0) false ∷
-    r.Take 8 (d 4 0) ∷
-    r.Take 9 (d 4 0) ∷
-    r.Take 10 (d 4 0) ∷
+    taken (8 ∷ 9 ∷ 10 ∷ []) (d 4 0) ++
     r.Commit (mark 6 true 0 false 0) false ∷
     []
 
@@ -104,151 +96,22 @@ setting_sources = setting_with script_sources files_sources
 
 abbrev pub journal_sources : List Rec
 journal_sources =
-    r.Feed 0 (d 2 0) ∷
-    r.Feed 1 (d 2 0) ∷
-    r.Feed 2 (d 2 0) ∷
-    r.Feed 4 (d 2 0) ∷
-    r.Feed 5 (d 2 0) ∷
-    r.Feed 6 (d 2 0) ∷
-    r.Feed 8 (d 2 0) ∷
-    r.Feed 9 (d 2 0) ∷
-    r.Feed 10 (d 2 0) ∷
-    r.Feed 0 (d 2 1) ∷
-    r.Feed 1 (d 2 1) ∷
-    r.Feed 2 (d 2 1) ∷
-    r.Feed 4 (d 2 1) ∷
-    r.Feed 5 (d 2 1) ∷
-    r.Feed 6 (d 2 1) ∷
-    r.Feed 8 (d 2 1) ∷
-    r.Feed 9 (d 2 1) ∷
-    r.Feed 10 (d 2 1) ∷
-    r.Feed 0 (d 2 2) ∷
-    r.Feed 1 (d 2 2) ∷
-    r.Feed 2 (d 2 2) ∷
-    r.Feed 4 (d 2 2) ∷
-    r.Feed 5 (d 2 2) ∷
-    r.Feed 6 (d 2 2) ∷
-    r.Feed 8 (d 2 2) ∷
-    r.Feed 9 (d 2 2) ∷
-    r.Feed 10 (d 2 2) ∷
-    r.Send 0 3 (piece.Whole (d 2 0)) ∷
-    r.Send 1 3 (piece.Whole (d 2 0)) ∷
-    r.Send 2 3 (piece.Whole (d 2 0)) ∷
-    r.Kernel 3 (k.Zero (co 2 0) 1 1) ∷
-    r.Recv 3 0 (piece.Whole (w 0 0)) ∷
-    r.Kernel 3 (k.Add (piece.Whole (co 2 0)) 21846 (piece.Whole (w 0 0)) cut.Whole) ∷
-    r.Recv 3 1 (piece.Whole (w 0 0)) ∷
-    r.Kernel 3 (k.Add (piece.Whole (co 2 0)) 32769 (piece.Whole (w 0 0)) cut.Whole) ∷
-    r.Recv 3 2 (piece.Whole (w 0 0)) ∷
-    r.Kernel 3 (k.Add (piece.Whole (co 2 0)) 1 (piece.Whole (w 0 0)) cut.Whole) ∷
-    r.Send 4 7 (piece.Whole (d 2 0)) ∷
-    r.Send 5 7 (piece.Whole (d 2 0)) ∷
-    r.Send 6 7 (piece.Whole (d 2 0)) ∷
-    r.Kernel 7 (k.Zero (co 2 0) 2 1) ∷
-    r.Recv 7 4 (piece.Whole (w 0 0)) ∷
-    r.Kernel 7 (k.Add (piece.Whole (co 2 0)) 21846 (piece.Whole (w 0 0)) cut.Whole) ∷
-    r.Recv 7 5 (piece.Whole (w 0 0)) ∷
-    r.Kernel 7 (k.Add (piece.Whole (co 2 0)) 32769 (piece.Whole (w 0 0)) cut.Whole) ∷
-    r.Recv 7 6 (piece.Whole (w 0 0)) ∷
-    r.Kernel 7 (k.Add (piece.Whole (co 2 0)) 1 (piece.Whole (w 0 0)) cut.Whole) ∷
-    r.Send 8 11 (piece.Whole (d 2 0)) ∷
-    r.Send 9 11 (piece.Whole (d 2 0)) ∷
-    r.Send 10 11 (piece.Whole (d 2 0)) ∷
-    r.Kernel 11 (k.Zero (co 2 0) 2 1) ∷
-    r.Recv 11 8 (piece.Whole (w 0 0)) ∷
-    r.Kernel 11 (k.Add (piece.Whole (co 2 0)) 21846 (piece.Whole (w 0 0)) cut.Whole) ∷
-    r.Recv 11 9 (piece.Whole (w 0 0)) ∷
-    r.Kernel 11 (k.Add (piece.Whole (co 2 0)) 32769 (piece.Whole (w 0 0)) cut.Whole) ∷
-    r.Recv 11 10 (piece.Whole (w 0 0)) ∷
-    r.Kernel 11 (k.Add (piece.Whole (co 2 0)) 1 (piece.Whole (w 0 0)) cut.Whole) ∷
-    r.Send 0 3 (piece.Whole (d 2 1)) ∷
-    r.Send 1 3 (piece.Whole (d 2 1)) ∷
-    r.Send 2 3 (piece.Whole (d 2 1)) ∷
-    r.Kernel 3 (k.Zero (co 2 1) 1 1) ∷
-    r.Recv 3 0 (piece.Whole (w 0 0)) ∷
-    r.Kernel 3 (k.Add (piece.Whole (co 2 1)) 21846 (piece.Whole (w 0 0)) cut.Whole) ∷
-    r.Recv 3 1 (piece.Whole (w 0 0)) ∷
-    r.Kernel 3 (k.Add (piece.Whole (co 2 1)) 32769 (piece.Whole (w 0 0)) cut.Whole) ∷
-    r.Recv 3 2 (piece.Whole (w 0 0)) ∷
-    r.Kernel 3 (k.Add (piece.Whole (co 2 1)) 1 (piece.Whole (w 0 0)) cut.Whole) ∷
-    r.Send 4 7 (piece.Whole (d 2 1)) ∷
-    r.Send 5 7 (piece.Whole (d 2 1)) ∷
-    r.Send 6 7 (piece.Whole (d 2 1)) ∷
-    r.Kernel 7 (k.Zero (co 2 1) 2 1) ∷
-    r.Recv 7 4 (piece.Whole (w 0 0)) ∷
-    r.Kernel 7 (k.Add (piece.Whole (co 2 1)) 21846 (piece.Whole (w 0 0)) cut.Whole) ∷
-    r.Recv 7 5 (piece.Whole (w 0 0)) ∷
-    r.Kernel 7 (k.Add (piece.Whole (co 2 1)) 32769 (piece.Whole (w 0 0)) cut.Whole) ∷
-    r.Recv 7 6 (piece.Whole (w 0 0)) ∷
-    r.Kernel 7 (k.Add (piece.Whole (co 2 1)) 1 (piece.Whole (w 0 0)) cut.Whole) ∷
-    r.Send 8 11 (piece.Whole (d 2 1)) ∷
-    r.Send 9 11 (piece.Whole (d 2 1)) ∷
-    r.Send 10 11 (piece.Whole (d 2 1)) ∷
-    r.Kernel 11 (k.Zero (co 2 1) 2 1) ∷
-    r.Recv 11 8 (piece.Whole (w 0 0)) ∷
-    r.Kernel 11 (k.Add (piece.Whole (co 2 1)) 21846 (piece.Whole (w 0 0)) cut.Whole) ∷
-    r.Recv 11 9 (piece.Whole (w 0 0)) ∷
-    r.Kernel 11 (k.Add (piece.Whole (co 2 1)) 32769 (piece.Whole (w 0 0)) cut.Whole) ∷
-    r.Recv 11 10 (piece.Whole (w 0 0)) ∷
-    r.Kernel 11 (k.Add (piece.Whole (co 2 1)) 1 (piece.Whole (w 0 0)) cut.Whole) ∷
-    r.Send 0 3 (piece.Whole (d 2 2)) ∷
-    r.Send 1 3 (piece.Whole (d 2 2)) ∷
-    r.Send 2 3 (piece.Whole (d 2 2)) ∷
-    r.Kernel 3 (k.Zero (co 2 2) 1 1) ∷
-    r.Recv 3 0 (piece.Whole (w 0 0)) ∷
-    r.Kernel 3 (k.Add (piece.Whole (co 2 2)) 21846 (piece.Whole (w 0 0)) cut.Whole) ∷
-    r.Recv 3 1 (piece.Whole (w 0 0)) ∷
-    r.Kernel 3 (k.Add (piece.Whole (co 2 2)) 32769 (piece.Whole (w 0 0)) cut.Whole) ∷
-    r.Recv 3 2 (piece.Whole (w 0 0)) ∷
-    r.Kernel 3 (k.Add (piece.Whole (co 2 2)) 1 (piece.Whole (w 0 0)) cut.Whole) ∷
-    r.Send 4 7 (piece.Whole (d 2 2)) ∷
-    r.Send 5 7 (piece.Whole (d 2 2)) ∷
-    r.Send 6 7 (piece.Whole (d 2 2)) ∷
-    r.Kernel 7 (k.Zero (co 2 2) 2 1) ∷
-    r.Recv 7 4 (piece.Whole (w 0 0)) ∷
-    r.Kernel 7 (k.Add (piece.Whole (co 2 2)) 21846 (piece.Whole (w 0 0)) cut.Whole) ∷
-    r.Recv 7 5 (piece.Whole (w 0 0)) ∷
-    r.Kernel 7 (k.Add (piece.Whole (co 2 2)) 32769 (piece.Whole (w 0 0)) cut.Whole) ∷
-    r.Recv 7 6 (piece.Whole (w 0 0)) ∷
-    r.Kernel 7 (k.Add (piece.Whole (co 2 2)) 1 (piece.Whole (w 0 0)) cut.Whole) ∷
-    r.Send 8 11 (piece.Whole (d 2 2)) ∷
-    r.Send 9 11 (piece.Whole (d 2 2)) ∷
-    r.Send 10 11 (piece.Whole (d 2 2)) ∷
-    r.Kernel 11 (k.Zero (co 2 2) 2 1) ∷
-    r.Recv 11 8 (piece.Whole (w 0 0)) ∷
-    r.Kernel 11 (k.Add (piece.Whole (co 2 2)) 21846 (piece.Whole (w 0 0)) cut.Whole) ∷
-    r.Recv 11 9 (piece.Whole (w 0 0)) ∷
-    r.Kernel 11 (k.Add (piece.Whole (co 2 2)) 32769 (piece.Whole (w 0 0)) cut.Whole) ∷
-    r.Recv 11 10 (piece.Whole (w 0 0)) ∷
-    r.Kernel 11 (k.Add (piece.Whole (co 2 2)) 1 (piece.Whole (w 0 0)) cut.Whole) ∷
+    fed (0 ∷ 1 ∷ 2 ∷ 4 ∷ 5 ∷ 6 ∷ 8 ∷ 9 ∷ 10 ∷ []) (d 2 0) ++
+    fed (0 ∷ 1 ∷ 2 ∷ 4 ∷ 5 ∷ 6 ∷ 8 ∷ 9 ∷ 10 ∷ []) (d 2 1) ++
+    fed (0 ∷ 1 ∷ 2 ∷ 4 ∷ 5 ∷ 6 ∷ 8 ∷ 9 ∷ 10 ∷ []) (d 2 2) ++
+    coded_by_three 0 2 0 1 1 ++
+    coded_by_three 4 2 0 2 1 ++
+    coded_by_three 8 2 0 2 1 ++
+    coded_by_three 0 2 1 1 1 ++
+    coded_by_three 4 2 1 2 1 ++
+    coded_by_three 8 2 1 2 1 ++
+    coded_by_three 0 2 2 1 1 ++
+    coded_by_three 4 2 2 2 1 ++
+    coded_by_three 8 2 2 2 1 ++
     r.Commit (mark 2 true 0 false 0) false ∷
-    r.Take 0 (d 2 0) ∷
-    r.Take 1 (d 2 0) ∷
-    r.Take 2 (d 2 0) ∷
-    r.Take 4 (d 2 0) ∷
-    r.Take 5 (d 2 0) ∷
-    r.Take 6 (d 2 0) ∷
-    r.Take 8 (d 2 0) ∷
-    r.Take 9 (d 2 0) ∷
-    r.Take 10 (d 2 0) ∷
-    r.Take 0 (d 2 1) ∷
-    r.Take 1 (d 2 1) ∷
-    r.Take 2 (d 2 1) ∷
-    r.Take 4 (d 2 1) ∷
-    r.Take 5 (d 2 1) ∷
-    r.Take 6 (d 2 1) ∷
-    r.Take 8 (d 2 1) ∷
-    r.Take 9 (d 2 1) ∷
-    r.Take 10 (d 2 1) ∷
-    r.Take 0 (d 2 2) ∷
-    r.Take 1 (d 2 2) ∷
-    r.Take 2 (d 2 2) ∷
-    r.Take 4 (d 2 2) ∷
-    r.Take 5 (d 2 2) ∷
-    r.Take 6 (d 2 2) ∷
-    r.Take 8 (d 2 2) ∷
-    r.Take 9 (d 2 2) ∷
-    r.Take 10 (d 2 2) ∷
+    taken (0 ∷ 1 ∷ 2 ∷ 4 ∷ 5 ∷ 6 ∷ 8 ∷ 9 ∷ 10 ∷ []) (d 2 0) ++
+    taken (0 ∷ 1 ∷ 2 ∷ 4 ∷ 5 ∷ 6 ∷ 8 ∷ 9 ∷ 10 ∷ []) (d 2 1) ++
+    taken (0 ∷ 1 ∷ 2 ∷ 4 ∷ 5 ∷ 6 ∷ 8 ∷ 9 ∷ 10 ∷ []) (d 2 2) ++
     r.Commit (mark 3 true 0 false 0) false ∷
     []
 

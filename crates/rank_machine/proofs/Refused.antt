@@ -16,7 +16,8 @@ use Rattle.rank_machine.proofs.Checks.{printed_test}
 use Rattle.field_core.proofs.Computing.{quick_inverse, inverse_walk}
 use Rattle.local_blas.specs.Kernels.{substituted, solution}
 use Rattle.rank_machine.specs.Losses.{LacksSpare}
-use Rattle.rank_machine.proofs.Terms.{setting_with, quick_setting, as_quick, legal_by_quick, no_matrix, d, v, w, mark, by_line, rect}
+use Rattle.rank_machine.proofs.Terms.{as_quick, by_line, d, legal_by_quick, mark, no_matrix, quick_setting, rect, setting_with, v, w}
+use Rattle.rank_machine.proofs.Smallest.{files_smallest, script_smallest}
 
 -- one word 7, then a drop line: no print line in the script
 abbrev pub script_leak : List Numbered
@@ -24,9 +25,6 @@ script_leak = commands_of (
     Some (c.Grid (103 ∷ []) 1 1 0) ∷
     Some (c.Matrix (65 ∷ []) (103 ∷ []) 1 1 1 1 0 0 (97 ∷ 46 ∷ 116 ∷ 120 ∷ 116 ∷ [])) ∷
     Some (c.Discard (65 ∷ [])) ∷ [])
-
-abbrev pub files_leak : ℕ → Matrix
-files_leak = λ line. by_line 2 line (record { rows = 1; columns = ((7 ∷ []) ∷ []) }) (no_matrix)
 
 -- the host takes the residue 7 from a Pivots slot, in a drop line
 abbrev pub journal_leak : List Rec → List Rec
@@ -37,9 +35,11 @@ journal_leak rest =
     r.Take 0 (v 3 0) ∷
     rest
 
-not_leak : (rest : List Rec) → IsLegal (setting_with script_leak files_leak) (journal_leak rest) → ⊥
+not_leak : (rest : List Rec) → IsLegal (setting_with script_leak files_smallest) (journal_leak rest) → ⊥
 unfolding entry tabulate patched sum_to substituted solution quick_inverse inverse_walk
-not_leak rest h = let q : IsLegal (quick_setting script_leak files_leak) (journal_leak rest) = as_quick script_leak files_leak (journal_leak rest) h in let e : false ≡ true = q.1.1.1.0.allowed in cc
+not_leak rest h =
+    let q = as_quick script_leak files_smallest (journal_leak rest) h in
+    let e : false ≡ true = q.1.1.1.0.allowed in cc
 
 -- slots that no line has: Work of group 5, Data of line 99 and group 7, Open of group 3
 abbrev pub journal_slots : List Rec
@@ -50,17 +50,11 @@ journal_slots =
     r.Commit (mark 2 true 0 false 0) false ∷
     []
 
-legal_slots : IsLegal (setting_with script_leak files_leak) journal_slots
+legal_slots : IsLegal (setting_with script_leak files_smallest) journal_slots
 unfolding entry tabulate patched sum_to substituted solution quick_inverse inverse_walk
-legal_slots = legal_by_quick script_leak files_leak [] journal_slots tt refl
+legal_slots = legal_by_quick script_leak files_smallest [] journal_slots tt refl
 
 -- a take of a tile of no rows, in the print line of a matrix whose word is 7: the word 0 is not printed from it
-abbrev pub script_shrunk : List Numbered
-script_shrunk = commands_of (
-    Some (c.Grid (103 ∷ []) 1 1 0) ∷
-    Some (c.Matrix (65 ∷ []) (103 ∷ []) 1 1 1 1 0 0 (97 ∷ 46 ∷ 116 ∷ 120 ∷ 116 ∷ [])) ∷
-    Some (c.Print (65 ∷ [])) ∷ [])
-
 abbrev pub journal_shrunk : List Rec
 journal_shrunk =
     r.Feed 0 (d 2 0) ∷
@@ -74,11 +68,11 @@ journal_shrunk =
     r.Commit (mark 3 true 0 false 0) false ∷
     []
 
-legal_shrunk : IsLegal (setting_with script_shrunk files_leak) journal_shrunk
+legal_shrunk : IsLegal (setting_with script_smallest files_smallest) journal_shrunk
 unfolding entry tabulate patched sum_to substituted solution quick_inverse inverse_walk
-legal_shrunk = legal_by_quick script_shrunk files_leak [] journal_shrunk tt refl
+legal_shrunk = legal_by_quick script_smallest files_smallest [] journal_shrunk tt refl
 
-printed_shrunk : printed_test (quick_setting script_shrunk files_leak) (state_after (quick_setting script_shrunk files_leak) journal_shrunk).committed 3 2 (record { rows = 1; columns = (0 ∷ []) ∷ [] }) ≡ false
+printed_shrunk : printed_test (quick_setting script_smallest files_smallest) (state_after (quick_setting script_smallest files_smallest) journal_shrunk).committed 3 2 (record { rows = 1; columns = (0 ∷ []) ∷ [] }) ≡ false
 unfolding entry tabulate patched sum_to substituted solution quick_inverse inverse_walk
 printed_shrunk = refl
 
@@ -92,9 +86,11 @@ journal_diag rest =
     r.Kernel 0 (k.Diag (w 0 0) (piece.Whole (d 2 0)) 1) ∷
     rest
 
-not_diag : (rest : List Rec) → IsLegal (setting_with script_leak files_leak) (journal_diag rest) → ⊥
+not_diag : (rest : List Rec) → IsLegal (setting_with script_leak files_smallest) (journal_diag rest) → ⊥
 unfolding entry tabulate patched sum_to substituted solution quick_inverse inverse_walk
-not_diag rest h = let q : IsLegal (quick_setting script_leak files_leak) (journal_diag rest) = as_quick script_leak files_leak (journal_diag rest) h in let e : false ≡ true = q.1.1.1.1.0.strips in cc
+not_diag rest h =
+    let q = as_quick script_leak files_smallest (journal_diag rest) h in
+    let e : false ≡ true = q.1.1.1.1.0.strips in cc
 
 -- a print line of A takes the word of B, which was copied into A's saved strip
 abbrev pub script_other : List Numbered
@@ -150,7 +146,9 @@ legal_spares = legal_by_quick script_spares files_spares [] (journal_spares []) 
 -- no rank takes its place the second time
 not_spares : (rest : List Rec) → IsLegal (setting_with script_spares files_spares) (journal_spares (r.Spawn 0 ∷ rest)) → ⊥
 unfolding entry tabulate patched sum_to substituted solution quick_inverse inverse_walk
-not_spares rest h = let q : IsLegal (quick_setting script_spares files_spares) (journal_spares (r.Spawn 0 ∷ rest)) = as_quick script_spares files_spares (journal_spares (r.Spawn 0 ∷ rest)) h in let e : false ≡ true = q.1.1.1.1.1.0.spare in cc
+not_spares rest h =
+    let q = as_quick script_spares files_spares (journal_spares (r.Spawn 0 ∷ rest)) h in
+    let e : false ≡ true = q.1.1.1.1.1.0.spare in cc
 
 lacks_spares : LacksSpare (setting_with script_spares files_spares) (state_after (setting_with script_spares files_spares) (journal_spares [])) 0
 unfolding sum_to
@@ -195,4 +193,6 @@ journal_in_place rest = r.Feed 0 (d 2 0) ∷ r.Kernel 0 (k.Trans (d 2 0) (piece.
 
 not_trans : (rest : List Rec) → IsLegal (setting_with script_trans files_trans) (journal_in_place rest) → ⊥
 unfolding entry tabulate patched sum_to substituted solution quick_inverse inverse_walk
-not_trans rest h = let q : IsLegal (quick_setting script_trans files_trans) (journal_in_place rest) = as_quick script_trans files_trans (journal_in_place rest) h in let e : false ≡ true = q.1.0.apart in cc
+not_trans rest h =
+    let q = as_quick script_trans files_trans (journal_in_place rest) h in
+    let e : false ≡ true = q.1.0.apart in cc

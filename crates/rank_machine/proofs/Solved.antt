@@ -1,5 +1,5 @@
 -- Solves with factors and with triangles, and drops: worked journals, 502 records.
-use Rattle.std.proofs.Common.{◌∷◌, ℕ, true, false, Some, List, refl, []}
+use Rattle.std.proofs.Common.{◌∷◌, ◌++◌, ℕ, true, false, Some, List, refl, []}
 use Rattle.field_core.specs.Sums.{sum_to}
 use Rattle.run_data.specs.Matrix.{Matrix, entry, tabulate}
 use Rattle.run_data.specs.Parts.{patched}
@@ -15,7 +15,9 @@ use Rattle.rank_machine.specs.Legal.{IsLegal}
 use Rattle.rank_machine.specs.Losses.{AreDue}
 use Rattle.field_core.proofs.Computing.{quick_inverse, inverse_walk}
 use Rattle.local_blas.specs.Kernels.{substituted, solution}
-use Rattle.rank_machine.proofs.Terms.{setting_with, legal_by_quick, no_matrix, d, o, v, w, co, lo, mark, rect, by_line}
+use Rattle.rank_machine.proofs.Terms.{by_line, co, d, legal_by_quick, lo, mark, no_matrix, rect, setting_with, v, w}
+use Rattle.rank_machine.proofs.Parts.{coded_by_one, exchanged_codes, fed, handed_over, least, opened_to, passed_on, row_subtracted, run_on, saved, saved_column, saved_strips, searched, solved_lower, solved_row, solved_upper, subtracted, taken}
+use Rattle.rank_machine.proofs.Multiplied.{multiplied_fed}
 
 abbrev pub script_solved : List Numbered
 script_solved = commands_of (
@@ -37,69 +39,28 @@ setting_solved = setting_with script_solved files_solved
 
 abbrev pub journal_solved : List Rec
 journal_solved =
-    r.Feed 0 (d 2 0) ∷
-    r.Feed 2 (d 2 0) ∷
-    r.Feed 0 (d 2 1) ∷
-    r.Feed 2 (d 2 1) ∷
-    r.Send 0 1 (piece.Whole (d 2 0)) ∷
-    r.Kernel 1 (k.Zero (co 2 0) 1 1) ∷
-    r.Recv 1 0 (piece.Whole (w 0 0)) ∷
-    r.Kernel 1 (k.Add (piece.Whole (co 2 0)) 1 (piece.Whole (w 0 0)) cut.Whole) ∷
-    r.Send 2 3 (piece.Whole (d 2 0)) ∷
-    r.Kernel 3 (k.Zero (co 2 0) 1 1) ∷
-    r.Recv 3 2 (piece.Whole (w 0 0)) ∷
-    r.Kernel 3 (k.Add (piece.Whole (co 2 0)) 1 (piece.Whole (w 0 0)) cut.Whole) ∷
-    r.Send 0 1 (piece.Whole (d 2 1)) ∷
-    r.Kernel 1 (k.Zero (co 2 1) 1 1) ∷
-    r.Recv 1 0 (piece.Whole (w 0 0)) ∷
-    r.Kernel 1 (k.Add (piece.Whole (co 2 1)) 1 (piece.Whole (w 0 0)) cut.Whole) ∷
-    r.Send 2 3 (piece.Whole (d 2 1)) ∷
-    r.Kernel 3 (k.Zero (co 2 1) 1 1) ∷
-    r.Recv 3 2 (piece.Whole (w 0 0)) ∷
-    r.Kernel 3 (k.Add (piece.Whole (co 2 1)) 1 (piece.Whole (w 0 0)) cut.Whole) ∷
+    fed (0 ∷ 2 ∷ []) (d 2 0) ++
+    fed (0 ∷ 2 ∷ []) (d 2 1) ++
+    coded_by_one 0 2 0 1 1 ++
+    coded_by_one 2 2 0 1 1 ++
+    coded_by_one 0 2 1 1 1 ++
+    coded_by_one 2 2 1 1 1 ++
     r.Commit (mark 2 true 0 false 0) false ∷
-    r.Feed 0 (d 3 0) ∷
-    r.Feed 2 (d 3 0) ∷
-    r.Send 0 1 (piece.Whole (d 3 0)) ∷
-    r.Kernel 1 (k.Zero (co 3 0) 1 1) ∷
-    r.Recv 1 0 (piece.Whole (w 0 0)) ∷
-    r.Kernel 1 (k.Add (piece.Whole (co 3 0)) 1 (piece.Whole (w 0 0)) cut.Whole) ∷
-    r.Send 2 3 (piece.Whole (d 3 0)) ∷
-    r.Kernel 3 (k.Zero (co 3 0) 1 1) ∷
-    r.Recv 3 2 (piece.Whole (w 0 0)) ∷
-    r.Kernel 3 (k.Add (piece.Whole (co 3 0)) 1 (piece.Whole (w 0 0)) cut.Whole) ∷
+    fed (0 ∷ 2 ∷ []) (d 3 0) ++
+    coded_by_one 0 3 0 1 1 ++
+    coded_by_one 2 3 0 1 1 ++
     r.Commit (mark 3 true 0 false 0) false ∷
-    r.Kernel 0 (k.Zero (v 4 0) 0 0) ∷
-    r.Kernel 1 (k.Zero (v 4 0) 0 0) ∷
+    run_on (0 ∷ 1 ∷ []) (k.Zero (v 4 0) 0 0) ++
     r.Kernel 1 (k.Zero (lo 2 0) 1 1) ∷
     r.Kernel 1 (k.Zero (lo 2 1) 1 1) ∷
-    r.Kernel 2 (k.Zero (v 4 0) 0 0) ∷
-    r.Kernel 3 (k.Zero (v 4 0) 0 0) ∷
+    run_on (2 ∷ 3 ∷ []) (k.Zero (v 4 0) 0 0) ++
     r.Kernel 3 (k.Zero (lo 2 0) 1 1) ∷
     r.Kernel 3 (k.Zero (lo 2 1) 1 1) ∷
     r.Commit (mark 4 false 0 false 0) false ∷
-    r.Save 0 (d 2 0) ∷
-    r.Save 2 (d 2 0) ∷
-    r.Save 1 (co 2 0) ∷
-    r.Save 3 (co 2 0) ∷
-    r.Save 0 (v 4 0) ∷
-    r.Save 1 (v 4 0) ∷
-    r.Save 2 (v 4 0) ∷
-    r.Save 3 (v 4 0) ∷
-    r.Send 0 1 (piece.Whole (d 2 0)) ∷
-    r.Kernel 0 (k.First (w 0 0) (piece.Whole (d 2 0)) 0 0) ∷
-    r.Recv 1 0 (piece.Whole (w 0 0)) ∷
-    r.Kernel 1 (k.Add (piece.Whole (co 2 0)) 65536 (piece.Whole (w 0 0)) cut.Whole) ∷
-    r.Send 2 3 (piece.Whole (d 2 0)) ∷
-    r.Kernel 2 (k.First (w 0 0) (piece.Whole (d 2 0)) 0 0) ∷
-    r.Send 2 0 (piece.Whole (w 0 0)) ∷
-    r.Recv 0 2 (piece.Whole (w 1 0)) ∷
-    r.Kernel 0 (k.Least (w 0 0) (piece.Whole (w 1 0))) ∷
-    r.Send 0 2 (piece.Whole (w 0 0)) ∷
-    r.Recv 2 0 (piece.Whole (w 0 0)) ∷
-    r.Recv 3 2 (piece.Whole (w 0 0)) ∷
-    r.Kernel 3 (k.Add (piece.Whole (co 2 0)) 65536 (piece.Whole (w 0 0)) cut.Whole) ∷
-    r.Take 0 (w 0 0) ∷
+    saved (0 ∷ 2 ∷ []) (d 2 0) ++
+    saved (1 ∷ 3 ∷ []) (co 2 0) ++
+    saved (0 ∷ 1 ∷ 2 ∷ 3 ∷ []) (v 4 0) ++
+    searched 2 0 1 2 0 0 65536 ++
     r.Kernel 0 (k.Push (v 4 0) (piece.Whole (w 0 0)) 0) ∷
     r.Send 0 2 (piece.Part (d 2 0) (rect 0 1 0 1)) ∷
     r.Kernel 2 (k.Push (v 4 0) (piece.Whole (w 0 0)) 0) ∷
@@ -109,19 +70,11 @@ journal_solved =
     r.Kernel 0 (k.Copy (piece.Whole (w 3 0)) (piece.Part (d 2 0) (rect 0 1 0 1))) ∷
     r.Send 0 2 (piece.Whole (w 3 0)) ∷
     r.Kernel 0 (k.Elim (d 2 0) 0 0 (piece.Whole (w 3 0))) ∷
-    r.Send 0 1 (piece.Whole (d 2 0)) ∷
-    r.Recv 1 0 (piece.Whole (o 2 0)) ∷
-    r.Send 0 1 (piece.Whole (v 4 0)) ∷
-    r.Kernel 1 (k.Scale (piece.Whole (o 2 0)) 1) ∷
-    r.Recv 1 0 (piece.Whole (v 4 0)) ∷
+    handed_over 0 2 0 4 1 ++
     r.Kernel 2 (k.Copy (piece.Part (d 2 0) (rect 0 1 0 1)) (piece.Whole (w 2 0))) ∷
     r.Recv 2 0 (piece.Whole (w 3 0)) ∷
     r.Kernel 2 (k.Elim (d 2 0) 0 0 (piece.Whole (w 3 0))) ∷
-    r.Send 2 3 (piece.Whole (d 2 0)) ∷
-    r.Recv 3 2 (piece.Whole (o 2 0)) ∷
-    r.Send 2 3 (piece.Whole (v 4 0)) ∷
-    r.Kernel 3 (k.Scale (piece.Whole (o 2 0)) 1) ∷
-    r.Recv 3 2 (piece.Whole (v 4 0)) ∷
+    handed_over 2 2 0 4 1 ++
     r.Commit (mark 4 false 0 true 0) false ∷
     r.Save 1 (co 2 0) ∷
     r.Save 1 (lo 2 0) ∷
@@ -130,102 +83,44 @@ journal_solved =
     r.Send 0 1 (piece.Whole (d 2 0)) ∷
     r.Send 1 3 (piece.Part (co 2 0) (rect 0 1 0 1)) ∷
     r.Send 2 3 (piece.Whole (d 2 0)) ∷
-    r.Recv 3 1 (piece.Whole (w 2 0)) ∷
-    r.Send 3 1 (piece.Part (co 2 0) (rect 0 1 0 1)) ∷
-    r.Recv 1 3 (piece.Part (co 2 0) (rect 0 1 0 1)) ∷
-    r.Send 1 3 (piece.Part (lo 2 0) (rect 0 1 0 1)) ∷
-    r.Kernel 3 (k.Copy (piece.Part (co 2 0) (rect 0 1 0 1)) (piece.Whole (w 2 0))) ∷
-    r.Recv 3 1 (piece.Whole (w 2 0)) ∷
-    r.Send 3 1 (piece.Part (lo 2 0) (rect 0 1 0 1)) ∷
-    r.Recv 1 3 (piece.Part (lo 2 0) (rect 0 1 0 1)) ∷
+    exchanged_codes 1 3 2 0 ++
     r.Recv 1 0 (piece.Whole (w 0 0)) ∷
-    r.Kernel 1 (k.Lower (piece.Part (co 2 0) (rect 0 1 0 1)) (piece.Part (w 0 0) (rect 0 1 0 1)) true) ∷
-    r.Kernel 1 (k.Copy (piece.Whole (w 1 0)) (piece.Part (co 2 0) (rect 0 1 0 1))) ∷
-    r.Send 1 3 (piece.Whole (w 1 0)) ∷
-    r.Kernel 1 (k.Add (piece.Whole (co 2 0)) 1 (piece.Whole (o 2 0)) (cut.Upper 0)) ∷
-    r.Kernel 1 (k.Add (piece.Whole (lo 2 0)) 1 (piece.Whole (o 2 0)) (cut.Lower 0)) ∷
+    solved_row 1 3 (co 2 0) (w 0 0) ++
+    opened_to 1 2 0 0 ++
     r.Kernel 3 (k.Copy (piece.Part (lo 2 0) (rect 0 1 0 1)) (piece.Whole (w 2 0))) ∷
-    r.Recv 3 2 (piece.Whole (w 0 0)) ∷
-    r.Recv 3 1 (piece.Whole (w 1 0)) ∷
-    r.Kernel 3 (k.MulAdd (piece.Part (co 2 0) (rect 0 1 0 1)) 65536 (piece.Part (w 0 0) (rect 0 1 0 1)) (piece.Whole (w 1 0))) ∷
-    r.Kernel 3 (k.Add (piece.Whole (co 2 0)) 1 (piece.Whole (o 2 0)) (cut.Upper 0)) ∷
-    r.Kernel 3 (k.Add (piece.Whole (lo 2 0)) 1 (piece.Whole (o 2 0)) (cut.Lower 0)) ∷
+    subtracted 3 2 1 (co 2 0) ++
+    opened_to 3 2 0 0 ++
     r.Commit (mark 4 false 1 false 0) false ∷
-    r.Save 0 (d 2 1) ∷
-    r.Save 1 (co 2 1) ∷
-    r.Save 1 (lo 2 1) ∷
-    r.Save 2 (d 2 1) ∷
-    r.Save 3 (co 2 1) ∷
-    r.Save 3 (lo 2 1) ∷
+    saved_strips 0 1 2 1 ++
+    saved_strips 2 3 2 1 ++
     r.Send 0 2 (piece.Part (d 2 1) (rect 0 1 0 1)) ∷
     r.Send 1 3 (piece.Part (co 2 1) (rect 0 1 0 1)) ∷
     r.Recv 2 0 (piece.Whole (w 2 0)) ∷
     r.Send 2 0 (piece.Part (d 2 1) (rect 0 1 0 1)) ∷
     r.Recv 0 2 (piece.Part (d 2 1) (rect 0 1 0 1)) ∷
     r.Send 0 1 (piece.Whole (d 2 0)) ∷
-    r.Kernel 0 (k.Lower (piece.Part (d 2 1) (rect 0 1 0 1)) (piece.Part (d 2 0) (rect 0 1 0 1)) true) ∷
-    r.Kernel 0 (k.Copy (piece.Whole (w 1 0)) (piece.Part (d 2 1) (rect 0 1 0 1))) ∷
-    r.Send 0 2 (piece.Whole (w 1 0)) ∷
+    solved_row 0 2 (d 2 1) (d 2 0) ++
     r.Kernel 2 (k.Copy (piece.Part (d 2 1) (rect 0 1 0 1)) (piece.Whole (w 2 0))) ∷
     r.Send 2 3 (piece.Whole (d 2 0)) ∷
-    r.Recv 2 0 (piece.Whole (w 1 0)) ∷
-    r.Kernel 2 (k.MulAdd (piece.Part (d 2 1) (rect 0 1 0 1)) 65536 (piece.Part (d 2 0) (rect 0 1 0 1)) (piece.Whole (w 1 0))) ∷
-    r.Recv 3 1 (piece.Whole (w 2 0)) ∷
-    r.Send 3 1 (piece.Part (co 2 1) (rect 0 1 0 1)) ∷
-    r.Recv 1 3 (piece.Part (co 2 1) (rect 0 1 0 1)) ∷
-    r.Send 1 3 (piece.Part (lo 2 1) (rect 0 1 0 1)) ∷
-    r.Kernel 3 (k.Copy (piece.Part (co 2 1) (rect 0 1 0 1)) (piece.Whole (w 2 0))) ∷
-    r.Recv 3 1 (piece.Whole (w 2 0)) ∷
-    r.Send 3 1 (piece.Part (lo 2 1) (rect 0 1 0 1)) ∷
-    r.Recv 1 3 (piece.Part (lo 2 1) (rect 0 1 0 1)) ∷
+    row_subtracted 2 0 0 (d 2 1) (d 2 0) ++
+    exchanged_codes 1 3 2 1 ++
     r.Recv 1 0 (piece.Whole (w 0 0)) ∷
-    r.Kernel 1 (k.Lower (piece.Part (co 2 1) (rect 0 1 0 1)) (piece.Part (w 0 0) (rect 0 1 0 1)) true) ∷
-    r.Kernel 1 (k.Copy (piece.Whole (w 1 0)) (piece.Part (co 2 1) (rect 0 1 0 1))) ∷
-    r.Send 1 3 (piece.Whole (w 1 0)) ∷
+    solved_row 1 3 (co 2 1) (w 0 0) ++
     r.Kernel 3 (k.Copy (piece.Part (lo 2 1) (rect 0 1 0 1)) (piece.Whole (w 2 0))) ∷
-    r.Recv 3 2 (piece.Whole (w 0 0)) ∷
-    r.Recv 3 1 (piece.Whole (w 1 0)) ∷
-    r.Kernel 3 (k.MulAdd (piece.Part (co 2 1) (rect 0 1 0 1)) 65536 (piece.Part (w 0 0) (rect 0 1 0 1)) (piece.Whole (w 1 0))) ∷
+    subtracted 3 2 1 (co 2 1) ++
     r.Commit (mark 4 false 1 false 0) false ∷
-    r.Save 0 (d 2 1) ∷
-    r.Save 2 (d 2 1) ∷
-    r.Save 1 (co 2 1) ∷
-    r.Save 3 (co 2 1) ∷
-    r.Save 0 (v 4 0) ∷
-    r.Save 1 (v 4 0) ∷
-    r.Save 2 (v 4 0) ∷
-    r.Save 3 (v 4 0) ∷
-    r.Send 0 1 (piece.Whole (d 2 1)) ∷
-    r.Kernel 0 (k.First (w 0 0) (piece.Whole (d 2 1)) 0 1) ∷
-    r.Recv 1 0 (piece.Whole (w 0 0)) ∷
-    r.Kernel 1 (k.Add (piece.Whole (co 2 1)) 65536 (piece.Whole (w 0 0)) cut.Whole) ∷
-    r.Send 2 3 (piece.Whole (d 2 1)) ∷
-    r.Kernel 2 (k.First (w 0 0) (piece.Whole (d 2 1)) 0 1) ∷
-    r.Send 2 0 (piece.Whole (w 0 0)) ∷
-    r.Recv 0 2 (piece.Whole (w 1 0)) ∷
-    r.Kernel 0 (k.Least (w 0 0) (piece.Whole (w 1 0))) ∷
-    r.Send 0 2 (piece.Whole (w 0 0)) ∷
-    r.Recv 2 0 (piece.Whole (w 0 0)) ∷
-    r.Recv 3 2 (piece.Whole (w 0 0)) ∷
-    r.Kernel 3 (k.Add (piece.Whole (co 2 1)) 65536 (piece.Whole (w 0 0)) cut.Whole) ∷
-    r.Take 0 (w 0 0) ∷
-    r.Kernel 0 (k.Push (v 4 0) (piece.Whole (w 0 0)) 1) ∷
-    r.Kernel 2 (k.Push (v 4 0) (piece.Whole (w 0 0)) 1) ∷
+    saved (0 ∷ 2 ∷ []) (d 2 1) ++
+    saved (1 ∷ 3 ∷ []) (co 2 1) ++
+    saved (0 ∷ 1 ∷ 2 ∷ 3 ∷ []) (v 4 0) ++
+    searched 2 0 1 2 1 1 65536 ++
+    run_on (0 ∷ 2 ∷ []) (k.Push (v 4 0) (piece.Whole (w 0 0)) 1) ++
     r.Kernel 2 (k.Copy (piece.Whole (w 3 0)) (piece.Part (d 2 1) (rect 0 1 0 1))) ∷
     r.Send 2 0 (piece.Whole (w 3 0)) ∷
     r.Recv 0 2 (piece.Whole (w 3 0)) ∷
     r.Kernel 0 (k.Elim (d 2 1) 0 1 (piece.Whole (w 3 0))) ∷
-    r.Send 0 1 (piece.Whole (d 2 1)) ∷
-    r.Recv 1 0 (piece.Whole (o 2 0)) ∷
-    r.Send 0 1 (piece.Whole (v 4 0)) ∷
-    r.Kernel 1 (k.Scale (piece.Whole (o 2 0)) 1) ∷
-    r.Recv 1 0 (piece.Whole (v 4 0)) ∷
+    handed_over 0 2 1 4 1 ++
     r.Kernel 2 (k.Elim (d 2 1) 0 1 (piece.Whole (w 3 0))) ∷
-    r.Send 2 3 (piece.Whole (d 2 1)) ∷
-    r.Recv 3 2 (piece.Whole (o 2 0)) ∷
-    r.Send 2 3 (piece.Whole (v 4 0)) ∷
-    r.Kernel 3 (k.Scale (piece.Whole (o 2 0)) 1) ∷
-    r.Recv 3 2 (piece.Whole (v 4 0)) ∷
+    handed_over 2 2 1 4 1 ++
     r.Commit (mark 4 false 1 true 0) false ∷
     r.Save 1 (co 2 1) ∷
     r.Save 1 (lo 2 1) ∷
@@ -233,54 +128,35 @@ journal_solved =
     r.Save 3 (lo 2 1) ∷
     r.Send 0 1 (piece.Whole (d 2 1)) ∷
     r.Recv 1 0 (piece.Whole (w 0 0)) ∷
-    r.Kernel 1 (k.Add (piece.Whole (co 2 1)) 1 (piece.Whole (o 2 0)) (cut.Upper 1)) ∷
-    r.Kernel 1 (k.Add (piece.Whole (lo 2 1)) 1 (piece.Whole (o 2 0)) (cut.Lower 1)) ∷
+    opened_to 1 2 1 1 ++
     r.Send 2 3 (piece.Whole (d 2 1)) ∷
     r.Recv 3 2 (piece.Whole (w 0 0)) ∷
     r.Kernel 3 (k.Lower (piece.Part (co 2 1) (rect 0 1 0 1)) (piece.Part (w 0 0) (rect 0 1 0 1)) true) ∷
-    r.Kernel 3 (k.Add (piece.Whole (co 2 1)) 1 (piece.Whole (o 2 0)) (cut.Upper 1)) ∷
-    r.Kernel 3 (k.Add (piece.Whole (lo 2 1)) 1 (piece.Whole (o 2 0)) (cut.Lower 1)) ∷
+    opened_to 3 2 1 1 ++
     r.Commit (mark 4 false 2 false 0) false ∷
-    r.Save 0 (d 2 0) ∷
-    r.Save 1 (co 2 0) ∷
-    r.Save 1 (lo 2 0) ∷
-    r.Save 2 (d 2 0) ∷
-    r.Save 3 (co 2 0) ∷
-    r.Save 3 (lo 2 0) ∷
+    saved_strips 0 1 2 0 ++
+    saved_strips 2 3 2 0 ++
     r.Send 0 1 (piece.Whole (d 2 1)) ∷
     r.Recv 1 0 (piece.Whole (w 0 0)) ∷
     r.Send 2 3 (piece.Whole (d 2 1)) ∷
     r.Recv 3 2 (piece.Whole (w 0 0)) ∷
     r.Kernel 3 (k.Lower (piece.Part (co 2 0) (rect 0 1 0 1)) (piece.Part (w 0 0) (rect 0 1 0 1)) true) ∷
     r.Commit (mark 4 false 2 false 0) false ∷
-    r.Save 1 (co 2 0) ∷
-    r.Save 3 (co 2 0) ∷
-    r.Kernel 1 (k.Add (piece.Whole (co 2 0)) 1 (piece.Whole (lo 2 0)) cut.Whole) ∷
-    r.Kernel 3 (k.Add (piece.Whole (co 2 0)) 1 (piece.Whole (lo 2 0)) cut.Whole) ∷
+    saved (1 ∷ 3 ∷ []) (co 2 0) ++
+    run_on (1 ∷ 3 ∷ []) (k.Add (piece.Whole (co 2 0)) 1 (piece.Whole (lo 2 0)) cut.Whole) ++
     r.Commit (mark 4 false 2 false 1) false ∷
-    r.Save 1 (co 2 1) ∷
-    r.Save 3 (co 2 1) ∷
-    r.Kernel 1 (k.Add (piece.Whole (co 2 1)) 1 (piece.Whole (lo 2 1)) cut.Whole) ∷
-    r.Kernel 3 (k.Add (piece.Whole (co 2 1)) 1 (piece.Whole (lo 2 1)) cut.Whole) ∷
+    saved (1 ∷ 3 ∷ []) (co 2 1) ++
+    run_on (1 ∷ 3 ∷ []) (k.Add (piece.Whole (co 2 1)) 1 (piece.Whole (lo 2 1)) cut.Whole) ++
     r.Commit (mark 4 false 2 false 2) false ∷
-    r.Kernel 0 (k.Diag (w 0 0) (piece.Whole (d 2 0)) 2) ∷
-    r.Kernel 2 (k.Diag (w 0 0) (piece.Whole (d 2 0)) 2) ∷
-    r.Send 2 0 (piece.Whole (w 0 0)) ∷
-    r.Recv 0 2 (piece.Whole (w 1 0)) ∷
-    r.Kernel 0 (k.Least (w 0 0) (piece.Whole (w 1 0))) ∷
+    run_on (0 ∷ 2 ∷ []) (k.Diag (w 0 0) (piece.Whole (d 2 0)) 2) ++
+    least 2 0 ++
     r.Take 0 (w 0 0) ∷
     r.Commit (mark 4 true 0 false 0) false ∷
-    r.Kernel 0 (k.Diag (w 0 0) (piece.Whole (d 2 0)) 2) ∷
-    r.Kernel 2 (k.Diag (w 0 0) (piece.Whole (d 2 0)) 2) ∷
-    r.Send 2 0 (piece.Whole (w 0 0)) ∷
-    r.Recv 0 2 (piece.Whole (w 1 0)) ∷
-    r.Kernel 0 (k.Least (w 0 0) (piece.Whole (w 1 0))) ∷
+    run_on (0 ∷ 2 ∷ []) (k.Diag (w 0 0) (piece.Whole (d 2 0)) 2) ++
+    least 2 0 ++
     r.Take 0 (w 0 0) ∷
     r.Commit (mark 5 false 0 false 0) false ∷
-    r.Save 0 (d 3 0) ∷
-    r.Save 1 (co 3 0) ∷
-    r.Save 2 (d 3 0) ∷
-    r.Save 3 (co 3 0) ∷
+    saved_column 3 0 ++
     r.Take 0 (v 4 0) ∷
     r.Send 0 2 (piece.Part (d 3 0) (rect 0 1 0 1)) ∷
     r.Send 1 3 (piece.Part (co 3 0) (rect 0 1 0 1)) ∷
@@ -293,70 +169,47 @@ journal_solved =
     r.Recv 1 3 (piece.Part (co 3 0) (rect 0 1 0 1)) ∷
     r.Kernel 3 (k.Copy (piece.Part (co 3 0) (rect 0 1 0 1)) (piece.Whole (w 2 0))) ∷
     r.Commit (mark 5 false 0 false 0) false ∷
-    r.Save 0 (d 3 0) ∷
-    r.Save 1 (co 3 0) ∷
-    r.Save 2 (d 3 0) ∷
-    r.Save 3 (co 3 0) ∷
+    saved_column 3 0 ++
     r.Kernel 0 (k.Scale (piece.Whole (d 3 0)) 1) ∷
     r.Send 0 1 (piece.Whole (d 2 0)) ∷
-    r.Kernel 0 (k.Lower (piece.Part (d 3 0) (rect 0 1 0 1)) (piece.Part (d 2 0) (rect 0 1 0 1)) true) ∷
-    r.Kernel 0 (k.Zero (w 1 0) 1 1) ∷
-    r.Kernel 0 (k.Copy (piece.Whole (w 1 0)) (piece.Part (d 3 0) (rect 0 1 0 1))) ∷
-    r.Send 0 2 (piece.Whole (w 1 0)) ∷
+    solved_lower 0 2 (d 3 0) (d 2 0) ++
     r.Kernel 1 (k.Scale (piece.Whole (co 3 0)) 1) ∷
     r.Recv 1 0 (piece.Whole (w 0 0)) ∷
     r.Send 0 1 (piece.Whole (d 2 1)) ∷
-    r.Kernel 1 (k.Lower (piece.Part (co 3 0) (rect 0 1 0 1)) (piece.Part (w 0 0) (rect 0 1 0 1)) true) ∷
-    r.Kernel 1 (k.Zero (w 1 0) 1 1) ∷
-    r.Kernel 1 (k.Copy (piece.Whole (w 1 0)) (piece.Part (co 3 0) (rect 0 1 0 1))) ∷
-    r.Send 1 3 (piece.Whole (w 1 0)) ∷
+    solved_lower 1 3 (co 3 0) (w 0 0) ++
     r.Recv 1 0 (piece.Whole (w 0 0)) ∷
     r.Kernel 2 (k.Scale (piece.Whole (d 3 0)) 1) ∷
     r.Send 2 3 (piece.Whole (d 2 0)) ∷
-    r.Recv 2 0 (piece.Whole (w 1 0)) ∷
-    r.Kernel 2 (k.MulAdd (piece.Part (d 3 0) (rect 0 1 0 1)) 65536 (piece.Part (d 2 0) (rect 0 1 0 1)) (piece.Whole (w 1 0))) ∷
+    row_subtracted 2 0 0 (d 3 0) (d 2 0) ++
     r.Kernel 3 (k.Scale (piece.Whole (co 3 0)) 1) ∷
     r.Recv 3 2 (piece.Whole (w 0 0)) ∷
     r.Send 2 3 (piece.Whole (d 2 1)) ∷
     r.Kernel 2 (k.Lower (piece.Part (d 3 0) (rect 0 1 0 1)) (piece.Part (d 2 1) (rect 0 1 0 1)) true) ∷
-    r.Recv 3 1 (piece.Whole (w 1 0)) ∷
-    r.Kernel 3 (k.MulAdd (piece.Part (co 3 0) (rect 0 1 0 1)) 65536 (piece.Part (w 0 0) (rect 0 1 0 1)) (piece.Whole (w 1 0))) ∷
+    row_subtracted 3 1 0 (co 3 0) (w 0 0) ++
     r.Recv 3 2 (piece.Whole (w 0 0)) ∷
     r.Kernel 3 (k.Lower (piece.Part (co 3 0) (rect 0 1 0 1)) (piece.Part (w 0 0) (rect 0 1 0 1)) true) ∷
     r.Commit (mark 5 false 0 false 0) false ∷
-    r.Save 0 (d 3 0) ∷
-    r.Save 1 (co 3 0) ∷
-    r.Save 2 (d 3 0) ∷
-    r.Save 3 (co 3 0) ∷
+    saved_column 3 0 ++
     r.Kernel 0 (k.Scale (piece.Whole (d 3 0)) 1) ∷
     r.Send 0 1 (piece.Whole (d 2 1)) ∷
     r.Kernel 1 (k.Scale (piece.Whole (co 3 0)) 1) ∷
     r.Recv 1 0 (piece.Whole (w 0 0)) ∷
     r.Kernel 2 (k.Scale (piece.Whole (d 3 0)) 1) ∷
     r.Send 2 3 (piece.Whole (d 2 1)) ∷
-    r.Kernel 2 (k.Upper (piece.Part (d 3 0) (rect 0 1 0 1)) (piece.Part (d 2 1) (rect 0 1 0 1)) false) ∷
-    r.Kernel 2 (k.Zero (w 1 0) 1 1) ∷
-    r.Kernel 2 (k.Copy (piece.Whole (w 1 0)) (piece.Part (d 3 0) (rect 0 1 0 1))) ∷
-    r.Send 2 0 (piece.Whole (w 1 0)) ∷
-    r.Recv 0 2 (piece.Whole (w 1 0)) ∷
-    r.Kernel 0 (k.MulAdd (piece.Part (d 3 0) (rect 0 1 0 1)) 65536 (piece.Part (d 2 1) (rect 0 1 0 1)) (piece.Whole (w 1 0))) ∷
+    solved_upper 2 0 (d 3 0) (d 2 1) ++
+    row_subtracted 0 2 0 (d 3 0) (d 2 1) ++
     r.Send 0 1 (piece.Whole (d 2 0)) ∷
     r.Kernel 0 (k.Upper (piece.Part (d 3 0) (rect 0 1 0 1)) (piece.Part (d 2 0) (rect 0 1 0 1)) false) ∷
     r.Kernel 3 (k.Scale (piece.Whole (co 3 0)) 1) ∷
     r.Recv 3 2 (piece.Whole (w 0 0)) ∷
     r.Send 2 3 (piece.Whole (d 2 0)) ∷
-    r.Kernel 3 (k.Upper (piece.Part (co 3 0) (rect 0 1 0 1)) (piece.Part (w 0 0) (rect 0 1 0 1)) false) ∷
-    r.Kernel 3 (k.Zero (w 1 0) 1 1) ∷
-    r.Kernel 3 (k.Copy (piece.Whole (w 1 0)) (piece.Part (co 3 0) (rect 0 1 0 1))) ∷
-    r.Send 3 1 (piece.Whole (w 1 0)) ∷
-    r.Recv 1 3 (piece.Whole (w 1 0)) ∷
-    r.Kernel 1 (k.MulAdd (piece.Part (co 3 0) (rect 0 1 0 1)) 65536 (piece.Part (w 0 0) (rect 0 1 0 1)) (piece.Whole (w 1 0))) ∷
+    solved_upper 3 1 (co 3 0) (w 0 0) ++
+    row_subtracted 1 3 0 (co 3 0) (w 0 0) ++
     r.Recv 1 0 (piece.Whole (w 0 0)) ∷
     r.Kernel 1 (k.Upper (piece.Part (co 3 0) (rect 0 1 0 1)) (piece.Part (w 0 0) (rect 0 1 0 1)) false) ∷
     r.Recv 3 2 (piece.Whole (w 0 0)) ∷
     r.Commit (mark 5 true 0 false 0) false ∷
-    r.Take 0 (d 3 0) ∷
-    r.Take 2 (d 3 0) ∷
+    taken (0 ∷ 2 ∷ []) (d 3 0) ++
     r.Commit (mark 6 true 0 false 0) false ∷
     r.Commit (mark 7 true 0 false 0) false ∷
     r.Commit (mark 8 true 0 false 0) false ∷
@@ -388,91 +241,29 @@ setting_triangular = setting_with script_triangular files_triangular
 
 abbrev pub journal_triangular : List Rec
 journal_triangular =
-    r.Feed 0 (d 2 0) ∷
-    r.Feed 1 (d 2 0) ∷
-    r.Feed 3 (d 2 0) ∷
-    r.Feed 4 (d 2 0) ∷
-    r.Send 0 2 (piece.Whole (d 2 0)) ∷
-    r.Send 1 2 (piece.Whole (d 2 0)) ∷
-    r.Kernel 2 (k.Zero (co 2 0) 1 1) ∷
-    r.Recv 2 0 (piece.Whole (w 0 0)) ∷
-    r.Kernel 2 (k.Add (piece.Whole (co 2 0)) 32769 (piece.Whole (w 0 0)) cut.Whole) ∷
-    r.Recv 2 1 (piece.Whole (w 0 0)) ∷
-    r.Kernel 2 (k.Add (piece.Whole (co 2 0)) 1 (piece.Whole (w 0 0)) cut.Whole) ∷
-    r.Send 3 5 (piece.Whole (d 2 0)) ∷
-    r.Send 4 5 (piece.Whole (d 2 0)) ∷
-    r.Kernel 5 (k.Zero (co 2 0) 1 1) ∷
-    r.Recv 5 3 (piece.Whole (w 0 0)) ∷
-    r.Kernel 5 (k.Add (piece.Whole (co 2 0)) 32769 (piece.Whole (w 0 0)) cut.Whole) ∷
-    r.Recv 5 4 (piece.Whole (w 0 0)) ∷
-    r.Kernel 5 (k.Add (piece.Whole (co 2 0)) 1 (piece.Whole (w 0 0)) cut.Whole) ∷
-    r.Commit (mark 2 true 0 false 0) false ∷
-    r.Feed 0 (d 3 0) ∷
-    r.Feed 1 (d 3 0) ∷
-    r.Feed 3 (d 3 0) ∷
-    r.Feed 4 (d 3 0) ∷
-    r.Send 0 2 (piece.Whole (d 3 0)) ∷
-    r.Send 1 2 (piece.Whole (d 3 0)) ∷
-    r.Kernel 2 (k.Zero (co 3 0) 1 1) ∷
-    r.Recv 2 0 (piece.Whole (w 0 0)) ∷
-    r.Kernel 2 (k.Add (piece.Whole (co 3 0)) 32769 (piece.Whole (w 0 0)) cut.Whole) ∷
-    r.Recv 2 1 (piece.Whole (w 0 0)) ∷
-    r.Kernel 2 (k.Add (piece.Whole (co 3 0)) 1 (piece.Whole (w 0 0)) cut.Whole) ∷
-    r.Send 3 5 (piece.Whole (d 3 0)) ∷
-    r.Send 4 5 (piece.Whole (d 3 0)) ∷
-    r.Kernel 5 (k.Zero (co 3 0) 1 1) ∷
-    r.Recv 5 3 (piece.Whole (w 0 0)) ∷
-    r.Kernel 5 (k.Add (piece.Whole (co 3 0)) 32769 (piece.Whole (w 0 0)) cut.Whole) ∷
-    r.Recv 5 4 (piece.Whole (w 0 0)) ∷
-    r.Kernel 5 (k.Add (piece.Whole (co 3 0)) 1 (piece.Whole (w 0 0)) cut.Whole) ∷
-    r.Commit (mark 3 true 0 false 0) false ∷
-    r.Kernel 0 (k.Diag (w 0 0) (piece.Whole (d 2 0)) 2) ∷
-    r.Kernel 1 (k.Diag (w 0 0) (piece.Whole (d 2 0)) 2) ∷
-    r.Kernel 3 (k.Diag (w 0 0) (piece.Whole (d 2 0)) 2) ∷
-    r.Kernel 4 (k.Diag (w 0 0) (piece.Whole (d 2 0)) 2) ∷
-    r.Send 4 3 (piece.Whole (w 0 0)) ∷
-    r.Recv 3 4 (piece.Whole (w 1 0)) ∷
-    r.Kernel 3 (k.Least (w 0 0) (piece.Whole (w 1 0))) ∷
-    r.Send 3 1 (piece.Whole (w 0 0)) ∷
-    r.Recv 1 3 (piece.Whole (w 1 0)) ∷
-    r.Kernel 1 (k.Least (w 0 0) (piece.Whole (w 1 0))) ∷
-    r.Send 1 0 (piece.Whole (w 0 0)) ∷
-    r.Recv 0 1 (piece.Whole (w 1 0)) ∷
-    r.Kernel 0 (k.Least (w 0 0) (piece.Whole (w 1 0))) ∷
+    multiplied_fed ++
+    run_on (0 ∷ 1 ∷ 3 ∷ 4 ∷ []) (k.Diag (w 0 0) (piece.Whole (d 2 0)) 2) ++
+    least 4 3 ++
+    least 3 1 ++
+    least 1 0 ++
     r.Take 0 (w 0 0) ∷
     r.Commit (mark 4 false 0 false 0) false ∷
-    r.Save 0 (d 3 0) ∷
-    r.Save 1 (d 3 0) ∷
+    saved (0 ∷ 1 ∷ []) (d 3 0) ++
     r.Save 2 (co 3 0) ∷
-    r.Save 3 (d 3 0) ∷
-    r.Save 4 (d 3 0) ∷
+    saved (3 ∷ 4 ∷ []) (d 3 0) ++
     r.Save 5 (co 3 0) ∷
-    r.Kernel 0 (k.Scale (piece.Whole (d 3 0)) 7) ∷
-    r.Kernel 1 (k.Scale (piece.Whole (d 3 0)) 7) ∷
+    run_on (0 ∷ 1 ∷ []) (k.Scale (piece.Whole (d 3 0)) 7) ++
     r.Send 1 2 (piece.Whole (d 2 0)) ∷
     r.Kernel 2 (k.Scale (piece.Whole (co 3 0)) 7) ∷
-    r.Recv 2 1 (piece.Whole (w 0 0)) ∷
-    r.Send 2 0 (piece.Whole (w 0 0)) ∷
-    r.Recv 0 2 (piece.Whole (w 0 0)) ∷
-    r.Kernel 3 (k.Scale (piece.Whole (d 3 0)) 7) ∷
-    r.Kernel 4 (k.Scale (piece.Whole (d 3 0)) 7) ∷
+    passed_on 1 2 0 ++
+    run_on (3 ∷ 4 ∷ []) (k.Scale (piece.Whole (d 3 0)) 7) ++
     r.Send 4 5 (piece.Whole (d 2 0)) ∷
-    r.Kernel 4 (k.Upper (piece.Part (d 3 0) (rect 0 1 0 1)) (piece.Part (d 2 0) (rect 0 1 0 1)) false) ∷
-    r.Kernel 4 (k.Zero (w 1 0) 1 1) ∷
-    r.Kernel 4 (k.Copy (piece.Whole (w 1 0)) (piece.Part (d 3 0) (rect 0 1 0 1))) ∷
-    r.Send 4 1 (piece.Whole (w 1 0)) ∷
-    r.Recv 1 4 (piece.Whole (w 1 0)) ∷
-    r.Kernel 1 (k.MulAdd (piece.Part (d 3 0) (rect 0 1 0 1)) 65536 (piece.Part (d 2 0) (rect 0 1 0 1)) (piece.Whole (w 1 0))) ∷
+    solved_upper 4 1 (d 3 0) (d 2 0) ++
+    row_subtracted 1 4 0 (d 3 0) (d 2 0) ++
     r.Kernel 5 (k.Scale (piece.Whole (co 3 0)) 7) ∷
-    r.Recv 5 4 (piece.Whole (w 0 0)) ∷
-    r.Send 5 3 (piece.Whole (w 0 0)) ∷
-    r.Recv 3 5 (piece.Whole (w 0 0)) ∷
-    r.Kernel 3 (k.Upper (piece.Part (d 3 0) (rect 0 1 0 1)) (piece.Part (w 0 0) (rect 0 1 0 1)) false) ∷
-    r.Kernel 3 (k.Zero (w 1 0) 1 1) ∷
-    r.Kernel 3 (k.Copy (piece.Whole (w 1 0)) (piece.Part (d 3 0) (rect 0 1 0 1))) ∷
-    r.Send 3 0 (piece.Whole (w 1 0)) ∷
-    r.Recv 0 3 (piece.Whole (w 1 0)) ∷
-    r.Kernel 0 (k.MulAdd (piece.Part (d 3 0) (rect 0 1 0 1)) 65536 (piece.Part (w 0 0) (rect 0 1 0 1)) (piece.Whole (w 1 0))) ∷
+    passed_on 4 5 3 ++
+    solved_upper 3 0 (d 3 0) (w 0 0) ++
+    row_subtracted 0 3 0 (d 3 0) (w 0 0) ++
     r.Send 0 1 (piece.Whole (d 2 0)) ∷
     r.Kernel 0 (k.Upper (piece.Part (d 3 0) (rect 0 1 0 1)) (piece.Part (d 2 0) (rect 0 1 0 1)) false) ∷
     r.Recv 1 0 (piece.Whole (w 0 0)) ∷
@@ -481,90 +272,53 @@ journal_triangular =
     r.Send 3 4 (piece.Whole (d 2 0)) ∷
     r.Recv 4 3 (piece.Whole (w 0 0)) ∷
     r.Send 4 5 (piece.Whole (w 0 0)) ∷
-    r.Kernel 5 (k.Upper (piece.Part (co 3 0) (rect 0 1 0 1)) (piece.Part (w 0 0) (rect 0 1 0 1)) false) ∷
-    r.Kernel 5 (k.Zero (w 1 0) 1 1) ∷
-    r.Kernel 5 (k.Copy (piece.Whole (w 1 0)) (piece.Part (co 3 0) (rect 0 1 0 1))) ∷
-    r.Send 5 2 (piece.Whole (w 1 0)) ∷
-    r.Recv 2 5 (piece.Whole (w 1 0)) ∷
-    r.Kernel 2 (k.MulAdd (piece.Part (co 3 0) (rect 0 1 0 1)) 65536 (piece.Part (w 0 0) (rect 0 1 0 1)) (piece.Whole (w 1 0))) ∷
+    solved_upper 5 2 (co 3 0) (w 0 0) ++
+    row_subtracted 2 5 0 (co 3 0) (w 0 0) ++
     r.Recv 2 1 (piece.Whole (w 0 0)) ∷
     r.Kernel 2 (k.Upper (piece.Part (co 3 0) (rect 0 1 0 1)) (piece.Part (w 0 0) (rect 0 1 0 1)) false) ∷
     r.Recv 5 4 (piece.Whole (w 0 0)) ∷
     r.Commit (mark 4 true 0 false 0) false ∷
-    r.Take 0 (d 3 0) ∷
-    r.Take 1 (d 3 0) ∷
-    r.Take 3 (d 3 0) ∷
-    r.Take 4 (d 3 0) ∷
+    taken (0 ∷ 1 ∷ 3 ∷ 4 ∷ []) (d 3 0) ++
     r.Commit (mark 5 true 0 false 0) false ∷
-    r.Kernel 0 (k.Diag (w 0 0) (piece.Whole (d 2 0)) 0) ∷
-    r.Kernel 1 (k.Diag (w 0 0) (piece.Whole (d 2 0)) 0) ∷
-    r.Kernel 3 (k.Diag (w 0 0) (piece.Whole (d 2 0)) 0) ∷
-    r.Kernel 4 (k.Diag (w 0 0) (piece.Whole (d 2 0)) 0) ∷
-    r.Send 4 3 (piece.Whole (w 0 0)) ∷
-    r.Recv 3 4 (piece.Whole (w 1 0)) ∷
-    r.Kernel 3 (k.Least (w 0 0) (piece.Whole (w 1 0))) ∷
-    r.Send 3 1 (piece.Whole (w 0 0)) ∷
-    r.Recv 1 3 (piece.Whole (w 1 0)) ∷
-    r.Kernel 1 (k.Least (w 0 0) (piece.Whole (w 1 0))) ∷
-    r.Send 1 0 (piece.Whole (w 0 0)) ∷
-    r.Recv 0 1 (piece.Whole (w 1 0)) ∷
-    r.Kernel 0 (k.Least (w 0 0) (piece.Whole (w 1 0))) ∷
+    run_on (0 ∷ 1 ∷ 3 ∷ 4 ∷ []) (k.Diag (w 0 0) (piece.Whole (d 2 0)) 0) ++
+    least 4 3 ++
+    least 3 1 ++
+    least 1 0 ++
     r.Take 0 (w 0 0) ∷
     r.Commit (mark 6 false 0 false 0) false ∷
-    r.Save 0 (d 3 0) ∷
-    r.Save 1 (d 3 0) ∷
+    saved (0 ∷ 1 ∷ []) (d 3 0) ++
     r.Save 2 (co 3 0) ∷
-    r.Save 3 (d 3 0) ∷
-    r.Save 4 (d 3 0) ∷
+    saved (3 ∷ 4 ∷ []) (d 3 0) ++
     r.Save 5 (co 3 0) ∷
     r.Kernel 0 (k.Scale (piece.Whole (d 3 0)) 1) ∷
     r.Send 0 1 (piece.Whole (d 2 0)) ∷
-    r.Kernel 0 (k.Lower (piece.Part (d 3 0) (rect 0 1 0 1)) (piece.Part (d 2 0) (rect 0 1 0 1)) true) ∷
-    r.Kernel 0 (k.Zero (w 1 0) 1 1) ∷
-    r.Kernel 0 (k.Copy (piece.Whole (w 1 0)) (piece.Part (d 3 0) (rect 0 1 0 1))) ∷
-    r.Send 0 3 (piece.Whole (w 1 0)) ∷
+    solved_lower 0 3 (d 3 0) (d 2 0) ++
     r.Kernel 1 (k.Scale (piece.Whole (d 3 0)) 1) ∷
     r.Recv 1 0 (piece.Whole (w 0 0)) ∷
     r.Send 1 2 (piece.Whole (w 0 0)) ∷
-    r.Kernel 1 (k.Lower (piece.Part (d 3 0) (rect 0 1 0 1)) (piece.Part (w 0 0) (rect 0 1 0 1)) true) ∷
-    r.Kernel 1 (k.Zero (w 1 0) 1 1) ∷
-    r.Kernel 1 (k.Copy (piece.Whole (w 1 0)) (piece.Part (d 3 0) (rect 0 1 0 1))) ∷
-    r.Send 1 4 (piece.Whole (w 1 0)) ∷
+    solved_lower 1 4 (d 3 0) (w 0 0) ++
     r.Kernel 2 (k.Scale (piece.Whole (co 3 0)) 1) ∷
     r.Recv 2 1 (piece.Whole (w 0 0)) ∷
     r.Send 1 2 (piece.Whole (d 2 0)) ∷
-    r.Kernel 2 (k.Lower (piece.Part (co 3 0) (rect 0 1 0 1)) (piece.Part (w 0 0) (rect 0 1 0 1)) true) ∷
-    r.Kernel 2 (k.Zero (w 1 0) 1 1) ∷
-    r.Kernel 2 (k.Copy (piece.Whole (w 1 0)) (piece.Part (co 3 0) (rect 0 1 0 1))) ∷
-    r.Send 2 5 (piece.Whole (w 1 0)) ∷
-    r.Recv 2 1 (piece.Whole (w 0 0)) ∷
-    r.Send 2 0 (piece.Whole (w 0 0)) ∷
-    r.Recv 0 2 (piece.Whole (w 0 0)) ∷
+    solved_lower 2 5 (co 3 0) (w 0 0) ++
+    passed_on 1 2 0 ++
     r.Kernel 3 (k.Scale (piece.Whole (d 3 0)) 1) ∷
     r.Send 3 4 (piece.Whole (d 2 0)) ∷
-    r.Recv 3 0 (piece.Whole (w 1 0)) ∷
-    r.Kernel 3 (k.MulAdd (piece.Part (d 3 0) (rect 0 1 0 1)) 65536 (piece.Part (d 2 0) (rect 0 1 0 1)) (piece.Whole (w 1 0))) ∷
+    row_subtracted 3 0 0 (d 3 0) (d 2 0) ++
     r.Kernel 4 (k.Scale (piece.Whole (d 3 0)) 1) ∷
     r.Recv 4 3 (piece.Whole (w 0 0)) ∷
     r.Send 4 5 (piece.Whole (w 0 0)) ∷
-    r.Recv 4 1 (piece.Whole (w 1 0)) ∷
-    r.Kernel 4 (k.MulAdd (piece.Part (d 3 0) (rect 0 1 0 1)) 65536 (piece.Part (w 0 0) (rect 0 1 0 1)) (piece.Whole (w 1 0))) ∷
+    row_subtracted 4 1 0 (d 3 0) (w 0 0) ++
     r.Kernel 5 (k.Scale (piece.Whole (co 3 0)) 1) ∷
     r.Recv 5 4 (piece.Whole (w 0 0)) ∷
     r.Send 4 5 (piece.Whole (d 2 0)) ∷
     r.Kernel 4 (k.Lower (piece.Part (d 3 0) (rect 0 1 0 1)) (piece.Part (d 2 0) (rect 0 1 0 1)) true) ∷
-    r.Recv 5 2 (piece.Whole (w 1 0)) ∷
-    r.Kernel 5 (k.MulAdd (piece.Part (co 3 0) (rect 0 1 0 1)) 65536 (piece.Part (w 0 0) (rect 0 1 0 1)) (piece.Whole (w 1 0))) ∷
-    r.Recv 5 4 (piece.Whole (w 0 0)) ∷
-    r.Send 5 3 (piece.Whole (w 0 0)) ∷
-    r.Recv 3 5 (piece.Whole (w 0 0)) ∷
+    row_subtracted 5 2 0 (co 3 0) (w 0 0) ++
+    passed_on 4 5 3 ++
     r.Kernel 3 (k.Lower (piece.Part (d 3 0) (rect 0 1 0 1)) (piece.Part (w 0 0) (rect 0 1 0 1)) true) ∷
     r.Kernel 5 (k.Lower (piece.Part (co 3 0) (rect 0 1 0 1)) (piece.Part (w 0 0) (rect 0 1 0 1)) true) ∷
     r.Commit (mark 6 true 0 false 0) false ∷
-    r.Take 0 (d 3 0) ∷
-    r.Take 1 (d 3 0) ∷
-    r.Take 3 (d 3 0) ∷
-    r.Take 4 (d 3 0) ∷
+    taken (0 ∷ 1 ∷ 3 ∷ 4 ∷ []) (d 3 0) ++
     r.Commit (mark 7 true 0 false 0) false ∷
     []
 

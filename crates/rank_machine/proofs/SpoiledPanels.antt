@@ -1,5 +1,5 @@
 -- Spoiled commits of a factorization, and a spoiled recovery: no journal that begins so is legal. Above each stands what it breaks.
-use Rattle.std.proofs.Common.{◌≡◌, ◌∷◌, ◌*◌, ◌%◌, ◌<◌, ◌≤◌, ℕ, zero, suc, true, false, Bool, Some, List, length, slice_index_or, refl, sym, subst, lit<, lit≤, arith, ⊎_elim, []}
+use Rattle.std.proofs.Common.{◌≡◌, ◌++◌, ◌∷◌, ◌*◌, ◌%◌, ◌<◌, ◌≤◌, ℕ, zero, suc, true, false, Bool, Some, List, length, slice_index_or, refl, sym, subst, lit<, lit≤, arith, ⊎_elim, []}
 use Rattle.std.proofs.lemmas.List.Elements.{All-from_recursion}
 use Rattle.field_core.specs.FieldLaws.{IsField-from_IsPrime}
 use Rattle.field_core.specs.Primes.{prime_65537}
@@ -21,7 +21,9 @@ use Rattle.rank_machine.specs.declared.record.Rec.TheVariants as r
 use Rattle.rank_machine.specs.Setting.{Setting}
 use Rattle.rank_machine.specs.Legal.{IsLegal}
 use Rattle.local_blas.specs.Kernels.{substituted, solution}
-use Rattle.rank_machine.proofs.Terms.{setting_with, quick_setting, as_quick, no_matrix, d, o, v, w, co, lo, mark, by_line, none_lost}
+use Rattle.rank_machine.proofs.Terms.{as_quick, by_line, d, legal_past, lo, mark, no_matrix, none_lost, o, setting_with, v, w}
+use Rattle.rank_machine.proofs.Parts.{coded_by_one, run_on, saved}
+use Rattle.rank_machine.proofs.Decoded.{decoded_restarted, files_decoded, script_decoded, setting_decoded}
 
 -- a number of the pivot list is past the last row of the matrix
 abbrev pub script_pivot_past_rows : List Numbered
@@ -36,21 +38,29 @@ files_pivot_past_rows = λ line. by_line 2 line (record { rows = 1; columns = ((
 abbrev pub setting_pivot_past_rows : Setting
 setting_pivot_past_rows = setting_with script_pivot_past_rows files_pivot_past_rows
 
-abbrev pub journal_pivot_past_rows : List Rec → List Rec
-journal_pivot_past_rows rest =
+-- a matrix is fed, and its first row with a pivot looked for
+abbrev pub pivots_begun : List Rec
+pivots_begun =
     r.Feed 0 (d 2 0) ∷
     r.Commit (mark 2 true 0 false 0) false ∷
     r.Kernel 0 (k.Zero (v 3 0) 0 0) ∷
     r.Commit (mark 3 false 0 false 0) false ∷
     r.Save 0 (v 3 0) ∷
     r.Kernel 0 (k.First (w 0 0) (piece.Whole (d 2 0)) 0 0) ∷
+    []
+
+abbrev pub spoiled_pivot_past_rows : List Rec → List Rec
+spoiled_pivot_past_rows rest =
     r.Kernel 0 (k.Push (v 3 0) (piece.Whole (w 0 0)) 1) ∷
     r.Commit (mark 3 false 0 true 0) false ∷
     rest
 
-not_pivot_past_rows : (rest : List Rec) → IsLegal setting_pivot_past_rows (journal_pivot_past_rows rest) → ⊥
+not_pivot_past_rows : (rest : List Rec) → IsLegal setting_pivot_past_rows (pivots_begun ++ spoiled_pivot_past_rows rest) → ⊥
 unfolding entry tabulate patched sum_to substituted solution quick_inverse inverse_walk
-not_pivot_past_rows rest h = let q : IsLegal (quick_setting script_pivot_past_rows files_pivot_past_rows) (journal_pivot_past_rows rest) = as_quick script_pivot_past_rows files_pivot_past_rows (journal_pivot_past_rows rest) h in let e : 2 ≤ 1 = (q.1.1.1.1.1.1.1.0.law.lists 3 refl).at_most 0 (lit< tt) in absurd (omega (arith, e))
+not_pivot_past_rows rest h =
+    let q = legal_past script_pivot_past_rows files_pivot_past_rows pivots_begun (spoiled_pivot_past_rows rest) h in
+    let e : 2 ≤ 1 = (q.1.0.law.lists 3 refl).at_most 0 (lit< tt) in
+    absurd (omega (arith, e))
 
 -- a number of the pivot list is above its own row: column 2 is said to have its pivot in row 1
 abbrev pub script_pivot_above : List Numbered
@@ -65,22 +75,19 @@ files_pivot_above = λ line. by_line 2 line (record { rows = 2; columns = ((1 �
 abbrev pub setting_pivot_above : Setting
 setting_pivot_above = setting_with script_pivot_above files_pivot_above
 
-abbrev pub journal_pivot_above : List Rec → List Rec
-journal_pivot_above rest =
-    r.Feed 0 (d 2 0) ∷
-    r.Commit (mark 2 true 0 false 0) false ∷
-    r.Kernel 0 (k.Zero (v 3 0) 0 0) ∷
-    r.Commit (mark 3 false 0 false 0) false ∷
-    r.Save 0 (v 3 0) ∷
-    r.Kernel 0 (k.First (w 0 0) (piece.Whole (d 2 0)) 0 0) ∷
+abbrev pub spoiled_pivot_above : List Rec → List Rec
+spoiled_pivot_above rest =
     r.Kernel 0 (k.Push (v 3 0) (piece.Whole (w 0 0)) 0) ∷
     r.Kernel 0 (k.Push (v 3 0) (piece.Whole (w 0 0)) 1) ∷
     r.Commit (mark 3 false 0 true 0) false ∷
     rest
 
-not_pivot_above : (rest : List Rec) → IsLegal setting_pivot_above (journal_pivot_above rest) → ⊥
+not_pivot_above : (rest : List Rec) → IsLegal setting_pivot_above (pivots_begun ++ spoiled_pivot_above rest) → ⊥
 unfolding entry tabulate patched sum_to substituted solution quick_inverse inverse_walk
-not_pivot_above rest h = let q : IsLegal (quick_setting script_pivot_above files_pivot_above) (journal_pivot_above rest) = as_quick script_pivot_above files_pivot_above (journal_pivot_above rest) h in let e : 2 ≤ 1 = (q.1.1.1.1.1.1.1.1.0.law.lists 3 refl).at_least 1 (lit< tt) in absurd (omega (arith, e))
+not_pivot_above rest h =
+    let q = legal_past script_pivot_above files_pivot_above pivots_begun (spoiled_pivot_above rest) h in
+    let e : 2 ≤ 1 = (q.1.1.0.law.lists 3 refl).at_least 1 (lit< tt) in
+    absurd (omega (arith, e))
 
 -- the open panel's term stays in Code: the sum holds, Open does not
 abbrev pub script_open_left_out : List Numbered
@@ -98,17 +105,12 @@ setting_open_left_out = setting_with script_open_left_out files_open_left_out
 abbrev pub journal_open_left_out : List Rec → List Rec
 journal_open_left_out rest =
     r.Feed 0 (d 2 0) ∷
-    r.Send 0 1 (piece.Whole (d 2 0)) ∷
-    r.Kernel 1 (k.Zero (co 2 0) 1 1) ∷
-    r.Recv 1 0 (piece.Whole (w 0 0)) ∷
-    r.Kernel 1 (k.Add (piece.Whole (co 2 0)) 1 (piece.Whole (w 0 0)) cut.Whole) ∷
+    coded_by_one 0 2 0 1 1 ++
     r.Commit (mark 2 true 0 false 0) false ∷
-    r.Kernel 0 (k.Zero (v 3 0) 0 0) ∷
-    r.Kernel 1 (k.Zero (v 3 0) 0 0) ∷
+    run_on (0 ∷ 1 ∷ []) (k.Zero (v 3 0) 0 0) ++
     r.Kernel 1 (k.Zero (lo 2 0) 1 1) ∷
     r.Commit (mark 3 false 0 false 0) false ∷
-    r.Save 0 (v 3 0) ∷
-    r.Save 1 (v 3 0) ∷
+    saved (0 ∷ 1 ∷ []) (v 3 0) ++
     r.Kernel 0 (k.First (w 0 0) (piece.Whole (d 2 0)) 0 0) ∷
     r.Kernel 0 (k.Push (v 3 0) (piece.Whole (w 0 0)) 0) ∷
     r.Send 0 1 (piece.Whole (v 3 0)) ∷
@@ -119,40 +121,13 @@ journal_open_left_out rest =
 
 not_open_left_out : (rest : List Rec) → IsLegal setting_open_left_out (journal_open_left_out rest) → ⊥
 unfolding entry tabulate patched sum_to substituted solution quick_inverse inverse_walk
-not_open_left_out rest h = let q : IsLegal (quick_setting script_open_left_out files_open_left_out) (journal_open_left_out rest) = as_quick script_open_left_out files_open_left_out (journal_open_left_out rest) h in let e : 0 ≡ 5 = (q.1.1.1.1.1.1.1.1.1.1.1.1.1.1.1.1.1.0.law.matrices 2 refl).panel 0 0 0 0 0 (record { row_in = lit< tt; group_in = lit< tt; i_in = lit< tt; j_in = lit< tt }) (lit< tt) refl in absurd (omega (arith, e))
+not_open_left_out rest h =
+    let q = as_quick script_open_left_out files_open_left_out (journal_open_left_out rest) h in
+    let e : 0 ≡ 5 = (q.1.1.1.1.1.1.1.1.1.1.1.1.1.1.1.1.1.0.law.matrices 2 refl).panel 0 0 0 0 0 (record { row_in = lit< tt; group_in = lit< tt; i_in = lit< tt; j_in = lit< tt }) (lit< tt) refl in absurd (omega (arith, e))
 
 -- while a rank counts as lost, a factor that is no entry of the list that decodes its column
-abbrev pub script_wrong_coefficient : List Numbered
-script_wrong_coefficient = commands_of (
-    Some (c.Grid (103 ∷ []) 1 2 1) ∷
-    Some (c.Matrix (65 ∷ []) (103 ∷ []) 1 2 1 1 0 0 (97 ∷ 46 ∷ 116 ∷ 120 ∷ 116 ∷ [])) ∷
-    Some (c.Print (65 ∷ [])) ∷
-    Some (c.Lose 10 0) ∷ [])
-
-abbrev pub files_wrong_coefficient : ℕ → Matrix
-files_wrong_coefficient = λ line. by_line 2 line (record { rows = 1; columns = ((5 ∷ []) ∷ (7 ∷ []) ∷ []) }) (no_matrix)
-
-abbrev pub setting_wrong_coefficient : Setting
-setting_wrong_coefficient = setting_with script_wrong_coefficient files_wrong_coefficient
-
-abbrev pub journal_wrong_coefficient : List Rec → List Rec
-journal_wrong_coefficient rest =
-    r.Feed 0 (d 2 0) ∷
-    r.Feed 1 (d 2 0) ∷
-    r.Send 0 2 (piece.Whole (d 2 0)) ∷
-    r.Send 1 2 (piece.Whole (d 2 0)) ∷
-    r.Kernel 2 (k.Zero (co 2 0) 1 1) ∷
-    r.Recv 2 0 (piece.Whole (w 0 0)) ∷
-    r.Kernel 2 (k.Add (piece.Whole (co 2 0)) 32769 (piece.Whole (w 0 0)) cut.Whole) ∷
-    r.Recv 2 1 (piece.Whole (w 0 0)) ∷
-    r.Kernel 2 (k.Add (piece.Whole (co 2 0)) 1 (piece.Whole (w 0 0)) cut.Whole) ∷
-    r.Commit (mark 2 true 0 false 0) false ∷
-    r.Lose 0 ∷
-    r.Restore ∷
-    r.Spawn 0 ∷
-    r.Kernel 0 (k.Zero (d 2 0) 1 1) ∷
-    r.Send 1 0 (piece.Whole (d 2 0)) ∷
-    r.Recv 0 1 (piece.Whole (w 0 0)) ∷
+abbrev pub spoiled_wrong_coefficient : List Rec → List Rec
+spoiled_wrong_coefficient rest =
     r.Kernel 0 (k.Add (piece.Whole (d 2 0)) 3 (piece.Whole (w 0 0)) cut.Whole) ∷
     rest
 
@@ -191,6 +166,8 @@ not_coefficient which ks lost decodes =
     let same : ks ≡ decoding_list = only_one 65537 (quick_inverse 65537) quick_law 2 1 0 first_of_three ks decoding_list (lit< tt) (lit≤ tt) refl first decodes_first in
     subst (λ (ls : List ℕ). (i : ℕ) → i < length ls → slice_index_or ls i 3 ≡ 3 → ⊥) (sym same) not_listed
 
-not_wrong_coefficient : (rest : List Rec) → IsLegal setting_wrong_coefficient (journal_wrong_coefficient rest) → ⊥
+not_wrong_coefficient : (rest : List Rec) → IsLegal setting_decoded (decoded_restarted ++ spoiled_wrong_coefficient rest) → ⊥
 unfolding entry tabulate patched sum_to substituted solution quick_inverse inverse_walk
-not_wrong_coefficient rest h = let q : IsLegal (quick_setting script_wrong_coefficient files_wrong_coefficient) (journal_wrong_coefficient rest) = as_quick script_wrong_coefficient files_wrong_coefficient (journal_wrong_coefficient rest) h in ⊎_elim (λ (e : false ≡ true). cc) (λ t. not_coefficient t.which t.list t.is_lost t.decodes t.entry.0 t.entry.1 t.entry.2) q.1.1.1.1.1.1.1.1.1.1.1.1.1.1.1.1.0.factor
+not_wrong_coefficient rest h =
+    let q = legal_past script_decoded files_decoded decoded_restarted (spoiled_wrong_coefficient rest) h in
+    ⊎_elim (λ (e : false ≡ true). cc) (λ t. not_coefficient t.which t.list t.is_lost t.decodes t.entry.0 t.entry.1 t.entry.2) q.0.factor

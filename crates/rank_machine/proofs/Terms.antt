@@ -1,5 +1,5 @@
 -- Short words for worked journals.
-use Rattle.std.proofs.Common.{◌≡◌, ℕ, ◌==◌, ◌&&◌, not, zero, suc, Bool, true, false, List, [], ◌∷◌, slice_index_or, sym, subst}
+use Rattle.std.proofs.Common.{◌≡◌, ◌++◌, ℕ, ◌==◌, ◌&&◌, not, zero, suc, Bool, true, false, List, [], ◌∷◌, slice_index_or, sym, subst}
 use Rattle.std.specs.Prelude.{if◌then◌else◌}
 use Rattle.field_core.specs.Residue.{inverse}
 use Rattle.field_core.specs.Primes.{prime_65537}
@@ -14,7 +14,9 @@ use Rattle.rank_machine.specs.declared.record.Rec.{Rec}
 use Rattle.rank_machine.specs.declared.record.Rec.TheVariants as r
 use Rattle.rank_machine.specs.Setting.{Setting}
 use Rattle.rank_machine.specs.Scripts.{setting_over}
-use Rattle.rank_machine.specs.Legal.{IsLegal}
+use Rattle.rank_machine.specs.State.{State, opened}
+use Rattle.rank_machine.specs.Effect.{after, replay, state_after}
+use Rattle.rank_machine.specs.Legal.{IsLegalFrom, IsLegal}
 use Rattle.rank_machine.specs.Tests.{Known, legal_test}
 use Rattle.rank_machine.proofs.Agree.{AllDecode, IsLegal-from_test}
 
@@ -32,6 +34,14 @@ as_quick ns files journal h = subst (λ inverses. IsLegal (setting_over 65537 in
 pub legal_by_quick : (ns : List Numbered) (files : ℕ → Matrix) (known : List Known) (journal : List Rec) → AllDecode (quick_setting ns files) known → legal_test (quick_setting ns files) known journal ≡ true → IsLegal (setting_with ns files) journal
 legal_by_quick ns files known journal all h =
     subst (λ inverses. IsLegal (setting_over 65537 inverses ns files) journal) (quick_inverse_is 65537 prime_65537) (IsLegal-from_test (quick_setting ns files) known journal all h)
+
+-- what a legal journal that begins with some records says of those that follow
+legal_later : (s : Setting) (st : State) (before later : List Rec) → IsLegalFrom s st (before ++ later) → IsLegalFrom s (replay s st before) later
+legal_later s st [] later h = h
+legal_later s st (x ∷ xs) later h = legal_later s (after s st x) xs later h.1
+
+pub legal_past : (ns : List Numbered) (files : ℕ → Matrix) (before later : List Rec) → IsLegal (setting_with ns files) (before ++ later) → IsLegalFrom (quick_setting ns files) (state_after (quick_setting ns files) before) later
+legal_past ns files before later h = legal_later (quick_setting ns files) (opened (quick_setting ns files)) before later (as_quick ns files (before ++ later) h)
 
 abbrev pub no_matrix : Matrix
 no_matrix = record { rows = 0; columns = [] }

@@ -20,7 +20,8 @@ use Rattle.rank_machine.specs.declared.kernel.Kernel.TheVariants as k
 use Rattle.rank_machine.specs.declared.mark.Mark.{Mark}
 use Rattle.rank_machine.specs.declared.record.Rec.{Rec}
 use Rattle.rank_machine.specs.declared.record.Rec.TheVariants as r
-use Rattle.rank_machine.specs.Setting.{Job, Layout, Setting, some_job, layout, is_matrix, factored, group_count, strip_of, global_row, global_col}
+use Rattle.rank_machine.specs.declared.layout.Layout.{Layout}
+use Rattle.rank_machine.specs.Setting.{Job, Setting, some_job, layout, is_matrix, factored, group_count, strip_of, global_row, global_col}
 use Rattle.rank_machine.specs.State.{same_kind, State, opened, at_rank, at_slot, at_link, base}
 
 -- the number that means none
@@ -46,8 +47,8 @@ abbrev pub is_index : Option Tile → Bool
 is_index (Some (Index ns)) = true
 is_index _ = false
 
-abbrev pub number_of : Option Tile → ℕ
-number_of t = slice_index_or (numbers_of t) 0 0
+abbrev pub first_number : Option Tile → ℕ
+first_number t = slice_index_or (numbers_of t) 0 0
 
 abbrev pub slot_of : Piece → Slot
 slot_of (piece.Whole slot) = slot
@@ -162,10 +163,10 @@ made_by s rank mem (k.Upper to block unit) = Words (with_solved_upper s.modulus 
 made_by s rank mem (k.Swap to i j) = Words (with_rows_swapped (words_of (mem to)) i j)
 made_by s rank mem (k.First to from j above) = Index (first_row s rank mem from j above ∷ [])
 made_by s rank mem (k.Diag to from n) = Index (least_of (min n (diagonal (layout s (slot_of from).id))) (λ i. number_if (is_zero_here s rank mem (slot_of from).id i) (i + 1)) ∷ [])
-made_by s rank mem (k.Least to from) = Index (min (number_of (mem to)) (number_of (mem (slot_of from))) ∷ [])
+made_by s rank mem (k.Least to from) = Index (min (first_number (mem to)) (first_number (mem (slot_of from))) ∷ [])
 made_by s rank mem (k.Elim to j above row) =
     Words (with_eliminated s.modulus s.inverse (words_of (mem to)) (λ i. nat_lt above (global_row (layout s to.id) rank i)) j (matrix_in mem row) (area_in mem row))
-made_by s rank mem (k.Push to from above) = Index (numbers_of (mem to) ++ pushed (number_of (mem (slot_of from))) above ∷ [])
+made_by s rank mem (k.Push to from above) = Index (numbers_of (mem to) ++ pushed (first_number (mem (slot_of from))) above ∷ [])
 made_by s rank mem (k.Trans to from) = Words (transposed (part_of (matrix_in mem from) (area_in mem from)))
 
 -- ---- what is live under a mark

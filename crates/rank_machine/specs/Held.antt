@@ -5,7 +5,8 @@ use Rattle.blacs_grid.specs.Places.{is_member, row_of, is_data_rank}
 use Rattle.rank_machine.specs.declared.slot.Slot.{Slot}
 use Rattle.rank_machine.specs.declared.slot.Tile.{Tile}
 use Rattle.rank_machine.specs.declared.slot.Tile.TheVariants.{Words, Index}
-use Rattle.rank_machine.specs.Setting.{Layout, Job, Setting, grid_of_rank, layout, is_matrix, factored, group_count, strip_rows}
+use Rattle.rank_machine.specs.declared.layout.Layout.{Layout}
+use Rattle.rank_machine.specs.Setting.{Job, Setting, grid_of_rank, layout, is_matrix, factored, group_count, strip_rows}
 use Rattle.rank_machine.specs.State.{same_slot, State}
 use Rattle.rank_machine.specs.Effect.{current, is_live_matrix, is_live_list}
 

@@ -1,7 +1,8 @@
 -- Which marks follow which.
 use Rattle.std.specs.Prelude.{◌+◌, ◌&&◌, ◌||◌, ◌==◌, if◌then◌else◌, ℕ, Bool, true, false, not, nat_lt}
 use Rattle.rank_machine.specs.declared.mark.Mark.{Mark}
-use Rattle.rank_machine.specs.Setting.{Layout, Setting, layout, factored, group_count, panels}
+use Rattle.rank_machine.specs.declared.layout.Layout.{Layout}
+use Rattle.rank_machine.specs.Setting.{Setting, layout, factored, group_count, panels}
 use Rattle.rank_machine.specs.State.{opened}
 use Rattle.rank_machine.specs.Effect.{current}
 

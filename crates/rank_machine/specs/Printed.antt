@@ -8,7 +8,8 @@ use Rattle.rank_machine.specs.declared.slot.SlotKind.TheVariants.{Data, Pivots, 
 use Rattle.rank_machine.specs.declared.slot.Slot.{Slot}
 use Rattle.rank_machine.specs.declared.slot.Tile.{Tile}
 use Rattle.rank_machine.specs.declared.slot.Tile.TheVariants.{Words, Index}
-use Rattle.rank_machine.specs.Setting.{Layout, Setting, layout}
+use Rattle.rank_machine.specs.declared.layout.Layout.{Layout}
+use Rattle.rank_machine.specs.Setting.{Setting, layout}
 use Rattle.rank_machine.specs.State.{same_kind, same_slot, Took, or_else}
 use Rattle.rank_machine.specs.Effect.{none_number}
 

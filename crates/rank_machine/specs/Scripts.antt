@@ -5,13 +5,14 @@ use Rattle.std.specs.Ordering.{nat_cmp}
 use Rattle.std.specs.FinMap as map
 use Rattle.field_core.specs.Residue.{inverse}
 use Rattle.run_data.specs.Matrix.{Matrix, zero_matrix}
-use Rattle.run_data.specs.Script.{Numbered, commands_of, makes_records, operand, spares_of}
+use Rattle.run_data.specs.Script.{Numbered, commands_of, makes_records, modulus_of, operand, spares_of}
 use Rattle.run_data.specs.declared.command.Command.{Command}
 use Rattle.run_data.specs.declared.command.Command.TheVariants as c
 use Rattle.array_desc.specs.Descriptors.{desc_of}
 use Rattle.blacs_grid.specs.declared.Grid.{Grid}
 use Rattle.rank_machine.specs.declared.record.Loss.{Loss}
-use Rattle.rank_machine.specs.Setting.{Setting, Layout, Job, Path, forwards, backwards, members, no_job, no_grid}
+use Rattle.rank_machine.specs.declared.layout.Layout.{Layout}
+use Rattle.rank_machine.specs.Setting.{Setting, Job, Path, forwards, backwards, members, no_job, no_grid}
 
 -- ---- grids: their ranks follow those of the grids before
 abbrev pub grid_made : Command → ℕ → List Grid
@@ -88,6 +89,11 @@ job_of ns grids line (c.Links n) = no_job line
 job_of ns grids line (c.Order numbers) = no_job line
 job_of ns grids line (c.Lose at rank) = no_job line
 job_of ns grids line (c.Spares n) = no_job line
+job_of ns grids line (c.Field n) = no_job line
+job_of ns grids line (c.Ptran m n alpha a ia ja beta x ic jc) = record (no_job line) { scalars = alpha ∷ beta ∷ [] }
+job_of ns grids line (c.Pgetri n a ia ja v b ib jb) = no_job line
+job_of ns grids line (c.Flip name i j x) = no_job line
+job_of ns grids line (c.Pverify name) = no_job line
 
 abbrev pub jobs_from : List Numbered → List Grid → List Numbered → List Job
 jobs_from ns grids [] = []
@@ -106,10 +112,6 @@ setting_over p inverses ns files = let grids = grids_from 0 ns in record {
   spares = spares_of ns;
   files = files;
 }
-
--- the numbers modulo 65537
-abbrev pub modulus_of : List Numbered → ℕ
-modulus_of ns = 65537
 
 abbrev pub Matrices : Type 0
 Matrices = map.FinMap nat_cmp Matrix

@@ -1,19 +1,14 @@
 -- What a journal is judged by: the field, the grids, the losses, the matrices of the files, and what each line of the script asks of the machine, its names resolved.
 use Rattle.std.specs.Prelude.{ℕ, zero, suc, ◌+◌, ◌*◌, Bool, true, false, ◌&&◌, ◌||◌, if◌then◌else◌, ◌==◌, nat_lt, min, Option, None, is_some, unwrap_or, List, [], ◌∷◌, slice_index_or}
 use Rattle.run_data.specs.Matrix.{Matrix, entry, tabulate}
-use Rattle.array_desc.specs.declared.Desc.{Desc}
 use Rattle.array_desc.specs.Descriptors.{desc_of}
 use Rattle.array_desc.specs.Maps.{global, numroc, ceil_div, groups, block_in}
 use Rattle.blacs_grid.specs.declared.Grid.{Grid}
 use Rattle.blacs_grid.specs.Places.{size, is_member, row_of, col_of}
+use Rattle.rank_machine.specs.declared.layout.Layout.{Layout}
 use Rattle.rank_machine.specs.declared.record.Loss.{Loss}
 
 -- ---- what the machine needs of a script
--- where a matrix lies: its grid and its descriptor
-pub record Layout : Type 0 where
-  pub grid : Grid
-  pub desc : Desc
-
 -- where the sends of a line may go: anywhere, or in a product to the next member of a row or column, to the one before, or to any
 pub data Path : Type 0 where
   anywhere : Path

@@ -5,7 +5,8 @@ use Rattle.rank_machine.specs.declared.slot.SlotKind.TheVariants.{Data, Code, Lo
 use Rattle.rank_machine.specs.declared.mark.Mark.{Mark}
 use Rattle.rank_machine.specs.declared.record.Rec.{Rec}
 use Rattle.rank_machine.specs.declared.record.Rec.TheVariants as r
-use Rattle.rank_machine.specs.Setting.{Layout, Setting, all_below, all_jobs, ranks, grid_of_rank, layout, is_matrix, factored, group_count, strip_rows, block_at, global_col}
+use Rattle.rank_machine.specs.declared.layout.Layout.{Layout}
+use Rattle.rank_machine.specs.Setting.{Setting, all_below, all_jobs, ranks, grid_of_rank, layout, is_matrix, factored, group_count, strip_rows, block_at, global_col}
 use Rattle.rank_machine.specs.State.{same_kind, State, opened}
 use Rattle.rank_machine.specs.Effect.{numbers_of, is_index, slot_of, target, has_ended, current, is_live_matrix, is_live_list, after}
 use Rattle.rank_machine.specs.CodeLaw.{slot_at, has_low, has_open, is_open_group, data_word, code_word, symbol, weighted_sum, is_multiplier, is_open_column, is_strip_of, pivots_of}

@@ -3,11 +3,13 @@
 #![tactic(auto)]
 
 mod kernel;
+mod layout;
 mod mark;
 mod record;
 mod slot;
 
 pub use kernel::{Cut, Kernel};
+pub use layout::Layout;
 pub use mark::Mark;
 pub use record::{Loss, Rec};
 pub use run_data::Part;

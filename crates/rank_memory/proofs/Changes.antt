@@ -15,7 +15,7 @@ use Rattle.rank_machine.specs.declared.kernel.Kernel.{Kernel}
 use Rattle.rank_machine.specs.declared.kernel.Kernel.TheVariants as k
 use Rattle.rank_machine.specs.Setting.{Setting, layout, global_row}
 use Rattle.rank_machine.specs.State.{same_slot}
-use Rattle.rank_machine.specs.Effect.{words_of, numbers_of, number_of, is_words, is_index, is_whole, with_piece, cut_out, pushed, slot_of, area, matrix_in, area_in, target, reaches, made_by}
+use Rattle.rank_machine.specs.Effect.{words_of, numbers_of, first_number, is_words, is_index, is_whole, with_piece, cut_out, pushed, slot_of, area, matrix_in, area_in, target, reaches, made_by}
 use Rattle.rank_machine.specs.Legal.{is_inside, holds_words, is_number, same_area, is_square, is_apart, height, breadth}
 use Rattle.rank_machine.proofs.Base.{same_slot-true}
 use Rattle.rank_slots.specs.Cells.{with_slot}
@@ -227,11 +227,11 @@ least_fit p s rank holding t to from h =
     }
 
 pub least_made : (s : Setting) (rank : ℕ) (holding : Slot → Option Tile) (t : Tile) (to : Slot) (from : Piece) → is_apart to (from ∷ []) ≡ true
-    → made_by s rank (with_slot holding to t) (k.Least to from) ≡ Index (min (number_of (Some t)) (number_of (holding (slot_of from))) ∷ [])
+    → made_by s rank (with_slot holding to t) (k.Least to from) ≡ Index (min (first_number (Some t)) (first_number (holding (slot_of from))) ∷ [])
 least_made s rank holding t to from apart =
     let e = here holding to t in
     let f = number_there holding to t from apart in
-    λ n. Index (min (number_of (e n)) (number_of (f n)) ∷ [])
+    λ n. Index (min (first_number (e n)) (first_number (f n)) ∷ [])
 
 pub push_fit : (p : ℕ) (s : Setting) (rank : ℕ) (holding : Slot → Option Tile) (t : Tile) (to : Slot) (from : Piece) (above : ℕ) → IsFit p s rank (with_slot holding to t) (k.Push to from above) → PushFit holding t from
 push_fit p s rank holding t to from above h =
@@ -243,11 +243,11 @@ push_fit p s rank holding t to from above h =
     }
 
 pub push_made : (s : Setting) (rank : ℕ) (holding : Slot → Option Tile) (t : Tile) (to : Slot) (from : Piece) (above : ℕ) → is_apart to (from ∷ []) ≡ true
-    → made_by s rank (with_slot holding to t) (k.Push to from above) ≡ Index (numbers_of (Some t) ++ pushed (number_of (holding (slot_of from))) above ∷ [])
+    → made_by s rank (with_slot holding to t) (k.Push to from above) ≡ Index (numbers_of (Some t) ++ pushed (first_number (holding (slot_of from))) above ∷ [])
 push_made s rank holding t to from above apart =
     let e = here holding to t in
     let f = number_there holding to t from apart in
-    λ n. Index (numbers_of (e n) ++ pushed (number_of (f n)) above ∷ [])
+    λ n. Index (numbers_of (e n) ++ pushed (first_number (f n)) above ∷ [])
 
 words_some : (o : Option Tile) → is_words o ≡ true → o ≡ Some (Words (words_of o))
 words_some None h = absurd (cc)

@@ -12,7 +12,8 @@ use Rattle.run_data.proofs.Fills.{filled, is_passed_down, with_filled, rows-with
 use Rattle.local_blas.specs.Kernels.{multiplier, with_eliminated}
 use Rattle.array_desc.specs.Maps.{global, numroc}
 use Rattle.array_desc.proofs.CountLaws.{global-lt, local-lt_from_global}
-use Rattle.rank_machine.specs.Setting.{Layout, global_row, global_col}
+use Rattle.rank_machine.specs.declared.layout.Layout.{Layout}
+use Rattle.rank_machine.specs.Setting.{global_row, global_col}
 use Rattle.rank_slots.specs.Shapes.{is_in_triangle}
 use Rattle.rank_memory.specs.Places.{column_in}
 

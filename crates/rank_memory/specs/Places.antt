@@ -1,17 +1,7 @@
--- Where the matrix of a line lies, and a column of a matrix.
+-- A column of a matrix, and of a part.
 use Rattle.std.specs.Prelude.{ℕ, ◌+◌}
 use Rattle.run_data.specs.declared.matrix.Part.{Part}
 use Rattle.run_data.specs.Matrix.{Matrix}
-use Rattle.rank_machine.specs.Setting.{Layout}
-use Rattle.script_lines.specs.Layouts.{IsLayout}
-use Rattle.rank_memory.specs.declared.placed.Placed.{Placed}
-
-abbrev pub layout_of : Placed → Layout
-layout_of x = record { grid = x.grid; desc = x.desc }
-
--- grid and descriptor are within their limits
-abbrev pub IsSound : Placed → Type 0
-IsSound x = IsLayout (layout_of x)
 
 -- the rows of a part in one column
 abbrev pub column_in : Part → ℕ → Part

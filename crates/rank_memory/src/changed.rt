@@ -1,7 +1,7 @@
 //! The kernels that change a tile that is there. Their tile is out of its slot; what they read is in its slots.
 ghost use Rattle.std.specs.Prelude.{◌≡◌, ◌∷◌, [], ◌++◌, min, true, false, Some, IsSome, IsTrue, IfOk, OnOk};
 ghost use Rattle.rank_machine.specs.declared.slot.Tile.TheVariants.{Words, Index};
-ghost use Rattle.rank_machine.specs.Effect.{numbers_of, number_of, is_index, pushed, slot_of, target, made_by};
+ghost use Rattle.rank_machine.specs.Effect.{numbers_of, first_number, is_index, pushed, slot_of, target, made_by};
 ghost use Rattle.rank_machine.specs.Legal.{is_number, makes};
 ghost use Rattle.script_lines.specs.Lines.{setting_on, AreSound};
 ghost use Rattle.rank_slots.specs.Cells.{tiles_in, with_slot, IsMatrixOf, IsTileOf, AreCellsOf};
@@ -61,7 +61,7 @@ pub fn change_words<K: Field>(
 pub fn least_of_two(alloc: Global, tile: &Tile, other: &Tile) -> Result<Tile, AllocError>
     requires number { IsTrue (is_number (Some tile.now)) }
     requires other { IsTrue (is_number (Some other.now)) }
-    ensures { IfOk result (λ t. t ≡ Index (min (number_of (Some tile.now)) (number_of (Some other.now)) ∷ [])) }
+    ensures { IfOk result (λ t. t ≡ Index (min (first_number (Some tile.now)) (first_number (Some other.now)) ∷ [])) }
 {
     let n = number_in(tile).min(number_in(other));
     single(alloc, n)
@@ -84,7 +84,7 @@ fn number_to_push(n: u32, above: u32) -> Result<u32, AllocError>
 pub fn push_to(tile: Tile, other: &Tile, above: u32) -> Result<Tile, AllocError>
     requires index { IsTrue (is_index (Some tile)) }
     requires other { IsTrue (is_number (Some other.now)) }
-    ensures { IfOk result (λ t. t ≡ Index (numbers_of (Some tile) ++ pushed (number_of (Some other.now)) above ∷ [])) }
+    ensures { IfOk result (λ t. t ≡ Index (numbers_of (Some tile) ++ pushed (first_number (Some other.now)) above ∷ [])) }
 {
     let n = number_to_push(number_in(other), above)?;
     match tile {
@@ -110,7 +110,7 @@ pub fn tile_at(cells: &Cells, x: Piece) -> &Tile
 // The smaller number of a tile and of another slot, as a tile.
 fn least_from(alloc: Global, cells: &Cells, tile: &Tile, from: Piece) -> Result<Tile, AllocError>
     requires { LeastFit (tiles_in cells.now) tile.now from }
-    ensures { IfOk result (λ t. t ≡ Index (min (number_of (Some tile.now)) (number_of (tiles_in cells.now (slot_of from))) ∷ [])) }
+    ensures { IfOk result (λ t. t ≡ Index (min (first_number (Some tile.now)) (first_number (tiles_in cells.now (slot_of from))) ∷ [])) }
 {
     least_of_two(alloc, tile, tile_at(cells, from))
 }
@@ -118,7 +118,7 @@ fn least_from(alloc: Global, cells: &Cells, tile: &Tile, from: Piece) -> Result<
 // A list of numbers with the number of another slot, or with a row where that means none.
 fn push_from(cells: &Cells, tile: Tile, from: Piece, above: u32) -> Result<Tile, AllocError>
     requires { PushFit (tiles_in cells.now) tile from }
-    ensures { IfOk result (λ t. t ≡ Index (numbers_of (Some tile) ++ pushed (number_of (tiles_in cells.now (slot_of from))) above ∷ [])) }
+    ensures { IfOk result (λ t. t ≡ Index (numbers_of (Some tile) ++ pushed (first_number (tiles_in cells.now (slot_of from))) above ∷ [])) }
 {
     push_to(tile, tile_at(cells, from), above)
 }

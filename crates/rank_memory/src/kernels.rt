@@ -7,14 +7,15 @@ ghost use Rattle.local_blas.specs.Kernels.{with_added, with_eliminated};
 ghost use Rattle.blacs_grid.specs.Places.{is_member};
 ghost use Rattle.rank_machine.specs.Setting.{global_row};
 ghost use Rattle.rank_machine.specs.Effect.{area};
-ghost use Rattle.rank_memory.specs.Places.{layout_of, column_in, IsSound};
+ghost use Rattle.script_lines.specs.Layouts.{IsLayout};
+ghost use Rattle.rank_memory.specs.Places.{column_in};
 ghost use Rattle.rank_slots.specs.Shapes.{is_in_triangle};
 
 use crate::pieces::{area_of, part_in, word_in};
-use crate::placed::{Placed, rows_below};
+use crate::rows::rows_below;
 use field_core::Field;
 use local_blas::eliminate;
-use rank_machine::Piece;
+use rank_machine::{Layout, Piece};
 use run_data::{Mat, Part};
 use std::alloc::{AllocError, Global};
 
@@ -78,12 +79,12 @@ pub fn add_triangle<K: Field>(
     a: u32,
     src: &Mat,
     sp: Part,
-    placed: &Placed,
+    placed: &Layout,
     rank: u32,
     upper: bool,
     block: u32,
 )
-    requires sound { IsSound placed.now }
+    requires sound { IsLayout placed.now }
     requires member { IsTrue (is_member placed.now.grid rank) }
     requires dst_part { IsWithin at dst.old }
     requires src_part { IsWithin sp src.now }
@@ -91,7 +92,7 @@ pub fn add_triangle<K: Field>(
     requires factor { a < K.MODULUS }
     requires dst_words { AreWords K.MODULUS dst.old }
     requires src_words { AreWords K.MODULUS src.now }
-    ensures { dst.new ≡ with_added K.MODULUS dst.old at a src.now sp (is_in_triangle (layout_of placed.now) rank upper block) }
+    ensures { dst.new ≡ with_added K.MODULUS dst.old at a src.now sp (is_in_triangle placed.now rank upper block) }
 {
     let _shaped = dst.rows();
     let first_column = u64::from(block) * u64::from(placed.desc.nb);
@@ -105,14 +106,14 @@ pub fn add_triangle<K: Field>(
 pub fn eliminate_below<K: Field>(
     alloc: Global,
     dst: &mut Mat,
-    placed: &Placed,
+    placed: &Layout,
     rank: u32,
     above: u32,
     j: u32,
     row: &Mat,
     x: Piece,
 ) -> Result<(), AllocError>
-    requires sound { IsSound placed.now }
+    requires sound { IsLayout placed.now }
     requires member { IsTrue (is_member placed.now.grid rank) }
     requires column { j < cols dst.old }
     requires row_part { IsWithin (area x row.now) row.now }
@@ -121,7 +122,7 @@ pub fn eliminate_below<K: Field>(
     requires dst_words { AreWords K.MODULUS dst.old }
     requires row_words { AreWords K.MODULUS row.now }
     requires pivot { part_entry row.now (area x row.now) 0 j ≢ 0 }
-    ensures { OnOk result (dst.new ≡ with_eliminated K.MODULUS (inverse K.MODULUS) dst.old (λ i. nat_lt above (global_row (layout_of placed.now) rank i)) j row.now (area x row.now)) }
+    ensures { OnOk result (dst.new ≡ with_eliminated K.MODULUS (inverse K.MODULUS) dst.old (λ i. nat_lt above (global_row placed.now rank i)) j row.now (area x row.now)) }
 {
     let pivot_row = part_in(alloc, x, row)?;
     let from = rows_below(placed, rank, dst.rows(), u64::from(above) + 1);

@@ -7,13 +7,12 @@ mod kernels;
 mod made;
 mod mem;
 mod pieces;
-mod placed;
 mod reads;
+mod rows;
 mod search;
 mod words;
 
 pub use mem::RankMem;
-pub use placed::Placed;
 pub use rank_machine::{Cut, Kernel, Piece, Slot, SlotKind, Tile};
 pub use rank_slots::{Cell, Cells};
 pub use run_data::{IndexList, Mat, Part};

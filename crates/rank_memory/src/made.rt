@@ -3,20 +3,19 @@ ghost use Rattle.std.specs.Prelude.{◌≡◌, ◌+◌, ◌∷◌, [], true, min
 ghost use Rattle.run_data.specs.Parts.{part_of};
 ghost use Rattle.rank_machine.specs.declared.slot.Tile.TheVariants.{Words, Index};
 ghost use Rattle.rank_machine.specs.Setting.{layout};
-ghost use Rattle.rank_machine.specs.Effect.{words_of, is_words, slot_of, target, matrix_in, area_in, piece_in, made_by, number_of, first_row, least_of, number_if, is_zero_here, diagonal, transposed};
+ghost use Rattle.rank_machine.specs.Effect.{words_of, is_words, slot_of, target, matrix_in, area_in, piece_in, made_by, first_number, first_row, least_of, number_if, is_zero_here, diagonal, transposed};
 ghost use Rattle.rank_machine.specs.Legal.{makes, holds, holds_words, in_matrix, breadth, is_number};
 ghost use Rattle.script_lines.specs.Lines.{setting_on, AreSound};
 ghost use Rattle.rank_slots.specs.Cells.{tiles_in};
 ghost use Rattle.rank_slots.specs.Rank.{IsFit};
 
 use crate::pieces::{area_of, cut_out, transpose, zero_tile};
-use crate::placed::located;
 use crate::search::{first_row, first_zero};
 use field_core::Field;
 use rank_machine::{Kernel, Piece, Slot, Tile};
 use rank_slots::{Cells, find_tile};
 use run_data::{IndexList, Mat};
-use script_lines::Line;
+use script_lines::{Line, layout_at};
 use std::alloc::{AllocError, Global};
 
 /// The slot that a kernel writes.
@@ -67,7 +66,7 @@ pub fn single(alloc: Global, n: u32) -> Result<Tile, AllocError>
 /// The number of a tile that holds one.
 pub fn number_in(tile: &Tile) -> u32
     requires { IsTrue (is_number (Some tile.now)) }
-    ensures { result ≡ number_of (Some tile.now) }
+    ensures { result ≡ first_number (Some tile.now) }
 {
     match tile {
         Tile::Index(numbers) => numbers.get(0),
@@ -102,7 +101,7 @@ fn first_in(
     requires column { IsTrue (nat_lt j (breadth (area_in (tiles_in cells.now) from))) }
     ensures { IfOk result (λ t. t ≡ Index (first_row (setting_on 0 table.now) rank (tiles_in cells.now) from j above ∷ [])) }
 {
-    let placed = located(table, from.slot().id);
+    let placed = layout_at(table, from.slot().id);
     let m = words_at(cells, from);
     let n = first_row(m, area_of(from, m), j, &placed, rank, above);
     single(alloc, n)
@@ -121,8 +120,8 @@ fn zero_in(
     requires placed { IsTrue (in_matrix (setting_on 0 table.now) rank slot) }
     ensures { IfOk result (λ t. t ≡ Index (least_of (min n (diagonal (layout (setting_on 0 table.now) slot.id))) (λ i. number_if (is_zero_here (setting_on 0 table.now) rank (tiles_in cells.now) slot.id i) (i + 1)) ∷ [])) }
 {
-    let placed = located(table, slot.id);
-    let n = first_zero(cells, &placed, rank, n);
+    let placed = layout_at(table, slot.id);
+    let n = first_zero(cells, &placed, slot.id, rank, n);
     single(alloc, n)
 }
 

@@ -6,13 +6,13 @@ ghost use Rattle.array_desc.specs.Maps.{owner, local};
 ghost use Rattle.blacs_grid.specs.Places.{is_member, row_of, col_of};
 ghost use Rattle.rank_machine.specs.Setting.{Setting, layout, global_row};
 ghost use Rattle.rank_machine.specs.Effect.{words_of, least_of, number_if, is_zero_here, diagonal};
-ghost use Rattle.rank_memory.specs.Places.{layout_of, IsSound};
+ghost use Rattle.script_lines.specs.Layouts.{IsLayout};
 ghost use Rattle.rank_slots.specs.Cells.{tiles_in};
 
 use crate::pieces::word_in;
-use crate::placed::{Placed, global_of, row_on};
+use crate::rows::{global_of, row_on};
 use array_desc::{local, owner};
-use rank_machine::{Slot, SlotKind, Tile};
+use rank_machine::{Layout, Slot, SlotKind, Tile};
 use rank_slots::{Cells, find_tile};
 use run_data::{Mat, Part};
 
@@ -33,12 +33,12 @@ fn less_row(best: u64, word: u32, row: u64, above: u32) -> u64
 
 /// The least number, from 1, of a global row above a bound whose word in a column of a part is not zero, or the number that
 /// means none.
-pub fn first_row(m: &Mat, at: Part, j: u32, placed: &Placed, rank: u32, above: u32) -> u32
-    requires sound { IsSound placed.now }
+pub fn first_row(m: &Mat, at: Part, j: u32, placed: &Layout, rank: u32, above: u32) -> u32
+    requires sound { IsLayout placed.now }
     requires member { IsTrue (is_member placed.now.grid rank) }
     requires part { IsWithin at m.now }
     requires column { j < at.c1 - at.c0 }
-    ensures { result ≡ least_of (at.r1 - at.r0) (λ i. number_if (not (entry m.now (at.r0 + i) (at.c0 + j) == 0) && nat_lt above (global_row (layout_of placed.now) rank (at.r0 + i) + 1)) (global_row (layout_of placed.now) rank (at.r0 + i) + 1)) }
+    ensures { result ≡ least_of (at.r1 - at.r0) (λ i. number_if (not (entry m.now (at.r0 + i) (at.c0 + j) == 0) && nat_lt above (global_row placed.now rank (at.r0 + i) + 1)) (global_row placed.now rank (at.r0 + i) + 1)) }
 {
     let row = row_on(placed, rank);
     let mut best = 2048;
@@ -83,10 +83,10 @@ fn is_zero_at(cells: &Cells, slot: Slot, i: u32, j: u32) -> bool
 }
 
 // Whether the diagonal entry of a row and column lies on a rank and is zero.
-fn is_zero_on(cells: &Cells, placed: &Placed, row: u32, col: u32, i: u32) -> bool
-    requires sound { IsSound placed.now }
+fn is_zero_on(cells: &Cells, placed: &Layout, line: u32, row: u32, col: u32, i: u32) -> bool
+    requires sound { IsLayout placed.now }
     requires row { row < placed.now.grid.p }
-    ensures { (s : Setting) (rank : ℕ) → layout s placed.now.line ≡ layout_of placed.now → row ≡ row_of placed.now.grid rank → col ≡ col_of placed.now.grid rank → result ≡ is_zero_here s rank (tiles_in cells.now) placed.now.line i }
+    ensures { (s : Setting) (rank : ℕ) → layout s line ≡ placed.now → row ≡ row_of placed.now.grid rank → col ≡ col_of placed.now.grid rank → result ≡ is_zero_here s rank (tiles_in cells.now) line i }
 {
     let d = &placed.desc;
     let g = &placed.grid;
@@ -95,7 +95,7 @@ fn is_zero_on(cells: &Cells, placed: &Placed, row: u32, col: u32, i: u32) -> boo
     }
     let slot = Slot {
         kind: SlotKind::Data,
-        id: placed.line,
+        id: line,
         group: i / d.nb / g.q,
     };
     is_zero_at(cells, slot, local(i, d.mb, g.p), i % d.nb)
@@ -103,10 +103,10 @@ fn is_zero_on(cells: &Cells, placed: &Placed, row: u32, col: u32, i: u32) -> boo
 
 /// The least number, from 1 and up to a bound, of a diagonal entry of a matrix that lies on a rank and is zero, or the number
 /// that means none.
-pub fn first_zero(cells: &Cells, placed: &Placed, rank: u32, n: u32) -> u32
-    requires sound { IsSound placed.now }
+pub fn first_zero(cells: &Cells, placed: &Layout, line: u32, rank: u32, n: u32) -> u32
+    requires sound { IsLayout placed.now }
     requires member { IsTrue (is_member placed.now.grid rank) }
-    ensures { (s : Setting) → layout s placed.now.line ≡ layout_of placed.now → result ≡ least_of (min n (diagonal (layout_of placed.now))) (λ i. number_if (is_zero_here s rank (tiles_in cells.now) placed.now.line i) (i + 1)) }
+    ensures { (s : Setting) → layout s line ≡ placed.now → result ≡ least_of (min n (diagonal placed.now)) (λ i. number_if (is_zero_here s rank (tiles_in cells.now) line i) (i + 1)) }
 {
     let (row, col) = match placed.grid.coords(rank) {
         Some(at) => at,
@@ -114,7 +114,7 @@ pub fn first_zero(cells: &Cells, placed: &Placed, rank: u32, n: u32) -> u32
     };
     let mut best = NONE;
     for i in 0..n.min(placed.desc.m.min(placed.desc.n)) {
-        if is_zero_on(cells, placed, row, col, i) {
+        if is_zero_on(cells, placed, line, row, col, i) {
             best = best.min(i + 1);
         }
     }

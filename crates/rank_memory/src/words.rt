@@ -12,12 +12,11 @@ ghost use Rattle.rank_slots.specs.Shapes.{from_corner, has_nonzero_diagonal, is_
 
 use crate::kernels::{add_triangle, eliminate_below};
 use crate::pieces::{area_of, put_copy};
-use crate::placed::located;
 use field_core::Field;
 use local_blas::{add_scaled, mul_add, scale, solve_lower, solve_upper};
 use rank_machine::{Cut, Piece, Slot};
 use run_data::{Mat, Part};
-use script_lines::Line;
+use script_lines::{Line, layout_at};
 use std::alloc::{AllocError, Global};
 
 /// A part gets what a piece of another matrix holds.
@@ -66,7 +65,7 @@ fn add_in_triangle<K: Field>(
     requires src_words { AreWords K.MODULUS src.now }
     ensures { dst.new ≡ with_added K.MODULUS dst.old at a src.now sp (is_in_triangle (layout (setting_on 0 table.now) slot.id) rank upper block) }
 {
-    let placed = located(table, slot.id);
+    let placed = layout_at(table, slot.id);
     add_triangle::<K>(dst, at, a, src, sp, &placed, rank, upper, block);
 }
 
@@ -190,6 +189,6 @@ pub fn eliminate_words<K: Field>(
     requires pivot { IsTrue (not (entry row.now (area x row.now).r0 ((area x row.now).c0 + j) == 0)) }
     ensures { OnOk result (dst.new ≡ with_eliminated K.MODULUS (inverse K.MODULUS) dst.old (λ i. nat_lt above (global_row (layout (setting_on 0 table.now) slot.id) rank i)) j row.now (area x row.now)) }
 {
-    let placed = located(table, slot.id);
+    let placed = layout_at(table, slot.id);
     eliminate_below::<K>(alloc, dst, &placed, rank, above, j, row, x)
 }

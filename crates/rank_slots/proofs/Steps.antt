@@ -27,7 +27,8 @@ use Rattle.rank_machine.specs.declared.kernel.Cut.{Cut}
 use Rattle.rank_machine.specs.declared.kernel.Cut.TheVariants as cut
 use Rattle.rank_machine.specs.declared.kernel.Kernel.{Kernel}
 use Rattle.rank_machine.specs.declared.kernel.Kernel.TheVariants as k
-use Rattle.rank_machine.specs.Setting.{Layout, Setting, ranks, layout, global_row, global_col}
+use Rattle.rank_machine.specs.declared.layout.Layout.{Layout}
+use Rattle.rank_machine.specs.Setting.{Setting, ranks, layout, global_row, global_col}
 use Rattle.rank_machine.specs.State.{same_slot, State, at_link}
 use Rattle.rank_machine.specs.Effect.{words_of, slot_of, matrix_in, area_in, cut_out, piece_in, with_piece, target, reaches, least_of, number_if, diagonal, made_by, with_tile, first_message, after, replay}
 use Rattle.script_lines.specs.declared.lines.Line.{Line}

@@ -8,7 +8,8 @@ use Rattle.local_blas.specs.Kernels.{ShapesMultiply, ShapesSolve}
 use Rattle.blacs_grid.specs.Places.{is_member}
 use Rattle.rank_machine.specs.declared.slot.Slot.{Slot}
 use Rattle.rank_machine.specs.State.{kind_number}
-use Rattle.rank_machine.specs.Setting.{Setting, Layout, layout, is_matrix, all_below}
+use Rattle.rank_machine.specs.declared.layout.Layout.{Layout}
+use Rattle.rank_machine.specs.Setting.{Setting, layout, is_matrix, all_below}
 use Rattle.rank_machine.specs.Legal.{is_inside, same_area, is_square, in_matrix, height, breadth}
 use Rattle.rank_machine.proofs.Agree.{all_below-at}
 use Rattle.rank_slots.specs.Shapes.{has_nonzero_diagonal}

@@ -2,7 +2,8 @@
 use Rattle.std.specs.Prelude.{ℕ, ◌-◌, ◌+◌, ◌==◌, ◌||◌, Bool, true, false, not, nat_lt, nat_le}
 use Rattle.run_data.specs.declared.matrix.Part.{Part}
 use Rattle.run_data.specs.Matrix.{Matrix, entry}
-use Rattle.rank_machine.specs.Setting.{Layout, all_below, global_row, global_col}
+use Rattle.rank_machine.specs.declared.layout.Layout.{Layout}
+use Rattle.rank_machine.specs.Setting.{all_below, global_row, global_col}
 
 -- the rectangle of the same shape in the first row and column
 abbrev pub from_corner : Part → Part

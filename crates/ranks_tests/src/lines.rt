@@ -10,7 +10,7 @@ use array_desc::Desc;
 use blacs_grid::Grid;
 use rank_machine::{Mark, Slot, SlotKind};
 use run_data::{Command, Script, Word};
-use script_lines::{Layout, Line, grids_of, is_live, layout_of, lines_of};
+use script_lines::{Layout, Line, grids_of, is_live, layout_in, lines_of};
 use std::alloc::Global;
 use std::process::Abort;
 
@@ -111,7 +111,7 @@ fn grids(rt: &impl Abort, alloc: Global, script: &Script) -> Vec<Grid>
 fn second_layout(rt: &impl Abort, alloc: Global) -> Layout {
     let script = script_of(rt, alloc);
     let grids = grids(rt, alloc, &script);
-    layout_of(grids.as_slice(), &script, 6)
+    layout_in(grids.as_slice(), &script, 6)
 }
 
 // The table of the script's lines.

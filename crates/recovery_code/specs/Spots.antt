@@ -6,9 +6,9 @@ use Rattle.rank_machine.specs.declared.slot.Slot.{Slot}
 use Rattle.rank_machine.specs.declared.slot.SlotKind.TheVariants.{Data, Code, Low, Open}
 use Rattle.rank_machine.specs.declared.kernel.Cut.TheVariants as cut
 use Rattle.rank_machine.specs.declared.mark.Mark.{Mark}
-use Rattle.rank_machine.specs.Setting.{Layout, Setting, layout, strip_rows, block_at}
+use Rattle.rank_machine.specs.declared.layout.Layout.{Layout}
+use Rattle.rank_machine.specs.Setting.{Setting, layout, strip_rows, block_at}
 use Rattle.rank_machine.specs.CodeLaw.{slot_at, has_low, has_open}
-use Rattle.script_lines.specs.Layouts.{seen}
 use Rattle.round_laws.specs.Turns.{each_below}
 use Rattle.recovery_rounds.specs.Mending.{Events, bring, gain, clear, gain_all}
 use Rattle.recovery_code.specs.declared.mending.Place.{Place}
@@ -24,7 +24,7 @@ pub record Spot : Type 0 where
   pub closed : ℕ
 
 abbrev pub spot_seen : Place → Spot
-spot_seen x = record { d = seen x.layout; line = x.line; row = x.row; group = x.group; low = x.low; opened = x.opened; closed = x.closed }
+spot_seen x = record { d = x.layout; line = x.line; row = x.row; group = x.group; low = x.low; opened = x.opened; closed = x.closed }
 
 -- under a mark
 abbrev pub spot_under : Setting → Mark → ℕ → ℕ → ℕ → Spot

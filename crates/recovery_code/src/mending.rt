@@ -4,7 +4,7 @@ ghost use Rattle.field_core.specs.Residue.{inverse};
 ghost use Rattle.cauchy_code.specs.Cauchy.{helpers, first_live, IsDecoding};
 ghost use Rattle.blacs_grid.specs.Places.{width};
 ghost use Rattle.rank_machine.specs.Setting.{strip_rows, block_at};
-ghost use Rattle.script_lines.specs.Layouts.{IsLayout, seen};
+ghost use Rattle.script_lines.specs.Layouts.{IsLayout};
 ghost use Rattle.round_laws.specs.Turns.{each_below};
 ghost use Rattle.recovery_rounds.specs.Mending as mending;
 ghost use Rattle.recovery_code.specs.Spots.{spot_seen, rank_in, opens_here, clear_wanted, slots_wanted, help_by, code_symbol, symbol_at, decoding_at, part_at, adds_at, clears_at, rebuilding_at, row_data_at, row_code_at, Decode};
@@ -40,7 +40,7 @@ fn slot_at(kind: SlotKind, id: u32, group: u32) -> Slot
 
 // The rank of a process column.
 fn rank_of(place: Place, col: u32) -> u32
-    requires laid_out { IsLayout (seen place.layout) }
+    requires laid_out { IsLayout place.layout }
     requires row_in { place.row < place.layout.grid.p }
     requires col_in { col < width place.layout.grid }
     ensures { result ≡ rank_in (spot_seen place) col }
@@ -50,7 +50,7 @@ fn rank_of(place: Place, col: u32) -> u32
 
 // Whether the open panel lies in this group.
 fn is_open_group(place: Place) -> bool
-    requires { IsLayout (seen place.layout) }
+    requires { IsLayout place.layout }
     ensures { result ≡ opens_here (spot_seen place) }
 {
     place.opened && place.group == place.closed / place.layout.grid.q
@@ -63,9 +63,9 @@ fn clear_strip<K: Field>(
     rank: u32,
     slot: Slot,
 ) -> Result<(), NoMemory>
-    requires laid_out { IsLayout (seen place.layout) }
+    requires laid_out { IsLayout place.layout }
     requires row_in { place.row < place.layout.grid.p }
-    ensures { OnOk result (round.new ≡ round.old ++ mending.clear rank slot (strip_rows (seen place.layout) place.row) place.layout.desc.nb ∷ []) }
+    ensures { OnOk result (round.new ≡ round.old ++ mending.clear rank slot (strip_rows place.layout place.row) place.layout.desc.nb ∷ []) }
 {
     let desc = place.layout.desc;
     let rows = numroc(desc.m, desc.mb, place.row, desc.rsrc, place.layout.grid.p);
@@ -122,10 +122,10 @@ fn bring_and_gain<K: Field>(
 
 // The block column of the group on a process column.
 fn block_of(place: Place, col: u32) -> u32
-    requires laid_out { IsLayout (seen place.layout) }
+    requires laid_out { IsLayout place.layout }
     requires col_in { col < place.layout.grid.q }
     requires few { place.group < 65536 }
-    ensures { result ≡ block_at (seen place.layout) place.group col }
+    ensures { result ≡ block_at place.layout place.group col }
 {
     let q = place.layout.grid.q;
     place.group * q + (q + col - place.layout.desc.csrc) % q
@@ -138,7 +138,7 @@ fn add_part<K: Field>(
     c: u32,
     col: u32,
 ) -> Result<(), NoMemory>
-    requires laid_out { IsLayout (seen place.layout) }
+    requires laid_out { IsLayout place.layout }
     requires row_in { place.row < place.layout.grid.p }
     requires few { place.group < 65536 }
     requires code_column { c < place.layout.grid.f }
@@ -168,7 +168,7 @@ fn code_part<K: Field>(
     c: u32,
     col: u32,
 ) -> Result<(), NoMemory>
-    requires laid_out { IsLayout (seen place.layout) }
+    requires laid_out { IsLayout place.layout }
     requires row_in { place.row < place.layout.grid.p }
     requires few { place.group < 65536 }
     requires code_column { c < place.layout.grid.f }
@@ -194,7 +194,7 @@ fn clear_if<K: Field>(
     slot: Slot,
     wanted: bool,
 ) -> Result<(), NoMemory>
-    requires laid_out { IsLayout (seen place.layout) }
+    requires laid_out { IsLayout place.layout }
     requires row_in { place.row < place.layout.grid.p }
     ensures { OnOk result (round.new ≡ round.old ++ clear_wanted (spot_seen place) rank slot wanted) }
 {
@@ -208,7 +208,7 @@ fn clear_if<K: Field>(
 // Appends zero strips in the slots of a code column.
 #[tactic(auto, using(crate::proofs::Seams::three_parts))]
 fn clear_code<K: Field>(round: &mut Round<RankMem<K>>, place: Place, c: u32) -> Result<(), NoMemory>
-    requires laid_out { IsLayout (seen place.layout) }
+    requires laid_out { IsLayout place.layout }
     requires row_in { place.row < place.layout.grid.p }
     requires code_column { c < place.layout.grid.f }
     ensures { OnOk result (round.new ≡ round.old ++ clears_at (spot_seen place) c) }
@@ -228,7 +228,7 @@ pub fn rebuild_code<K: Field>(
     place: Place,
     c: u32,
 ) -> Result<(), NoMemory>
-    requires laid_out { IsLayout (seen place.layout) }
+    requires laid_out { IsLayout place.layout }
     requires row_in { place.row < place.layout.grid.p }
     requires few { place.group < 65536 }
     requires code_column { c < place.layout.grid.f }
@@ -270,7 +270,7 @@ fn gain_code<K: Field>(
     rank: u32,
     factor: u32,
 ) -> Result<(), NoMemory>
-    requires laid_out { IsLayout (seen place.layout) }
+    requires laid_out { IsLayout place.layout }
     requires other { from ≢ rank }
     ensures { OnOk result (round.new ≡ round.old ++ mending.gain_all from rank (record { kind = SlotKind.Data; id = place.line; group = place.group }) factor (code_symbol (spot_seen place))) }
 {
@@ -291,7 +291,7 @@ fn gain_symbol<K: Field>(
     col: u32,
     factor: u32,
 ) -> Result<(), NoMemory>
-    requires laid_out { IsLayout (seen place.layout) }
+    requires laid_out { IsLayout place.layout }
     requires row_in { place.row < place.layout.grid.p }
     requires which_in { which < place.layout.grid.q }
     requires col_in { col < width place.layout.grid }
@@ -317,7 +317,7 @@ fn gain_one<K: Field>(
     helps: bool,
     factor: u32,
 ) -> Result<(), NoMemory>
-    requires laid_out { IsLayout (seen place.layout) }
+    requires laid_out { IsLayout place.layout }
     requires row_in { place.row < place.layout.grid.p }
     requires which_in { which < place.layout.grid.q }
     requires col_in { col < width place.layout.grid }
@@ -391,7 +391,7 @@ fn gain_helpers<K: Field>(
     helping: &[bool],
     coefs: &Coefs,
 ) -> Result<(), NoMemory>
-    requires laid_out { IsLayout (seen place.layout) }
+    requires laid_out { IsLayout place.layout }
     requires row_in { place.row < place.layout.grid.p }
     requires which_in { which < place.layout.grid.q }
     requires columns { length helping.now ≡ width place.layout.grid }
@@ -420,7 +420,7 @@ fn decode_strip<K: Field>(
     lost: &[bool],
     which: u32,
 ) -> Result<(), NoMemory>
-    requires laid_out { IsLayout (seen place.layout) }
+    requires laid_out { IsLayout place.layout }
     requires row_in { place.row < place.layout.grid.p }
     requires which_in { which < place.layout.grid.q }
     requires columns { length lost.now ≡ width place.layout.grid }
@@ -448,7 +448,7 @@ fn rebuild_if<K: Field>(
     c: u32,
     lost: bool,
 ) -> Result<(), NoMemory>
-    requires laid_out { IsLayout (seen place.layout) }
+    requires laid_out { IsLayout place.layout }
     requires row_in { place.row < place.layout.grid.p }
     requires few { place.group < 65536 }
     requires code_column { c < place.layout.grid.f }
@@ -467,7 +467,7 @@ fn mend_codes<K: Field>(
     place: Place,
     lost: &[bool],
 ) -> Result<(), NoMemory>
-    requires laid_out { IsLayout (seen place.layout) }
+    requires laid_out { IsLayout place.layout }
     requires row_in { place.row < place.layout.grid.p }
     requires few { place.group < 65536 }
     requires columns { length lost.now ≡ width place.layout.grid }
@@ -489,7 +489,7 @@ fn decode_if<K: Field>(
     which: u32,
     wanted: bool,
 ) -> Result<(), NoMemory>
-    requires laid_out { IsLayout (seen place.layout) }
+    requires laid_out { IsLayout place.layout }
     requires row_in { place.row < place.layout.grid.p }
     requires which_in { which < place.layout.grid.q }
     requires columns { length lost.now ≡ width place.layout.grid }
@@ -511,7 +511,7 @@ fn mend_strips<K: Field>(
     place: Place,
     lost: &[bool],
 ) -> Result<(), NoMemory>
-    requires laid_out { IsLayout (seen place.layout) }
+    requires laid_out { IsLayout place.layout }
     requires row_in { place.row < place.layout.grid.p }
     requires columns { length lost.now ≡ width place.layout.grid }
     requires few_lost { count_by (λ b. b) lost.now ≤ place.layout.grid.f }
@@ -531,7 +531,7 @@ pub fn mend_row<K: Field>(
     place: Place,
     lost: &[bool],
 ) -> Result<(), NoMemory>
-    requires laid_out { IsLayout (seen place.layout) }
+    requires laid_out { IsLayout place.layout }
     requires row_in { place.row < place.layout.grid.p }
     requires few { place.group < 65536 }
     requires columns { length lost.now ≡ width place.layout.grid }

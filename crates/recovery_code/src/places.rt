@@ -1,7 +1,6 @@
 //! What a mark says of a group.
 ghost use Rattle.std.specs.Prelude.{◌≡◌};
 ghost use Rattle.rank_machine.specs.Setting as machine;
-ghost use Rattle.script_lines.specs.Layouts.{seen};
 ghost use Rattle.script_lines.specs.Lines.{setting_on, AreSound};
 ghost use Rattle.recovery_code.specs.Spots.{spot_seen, spot_under};
 
@@ -19,7 +18,7 @@ pub fn place_of(
     group: u32,
 ) -> Place
     requires sound { AreSound table.now }
-    requires layout { seen layout ≡ machine.layout (setting_on 0 table.now) line }
+    requires layout { layout ≡ machine.layout (setting_on 0 table.now) line }
     ensures { spot_seen result ≡ spot_under (setting_on 0 table.now) mark line row group }
 {
     let is_factored = 0 < line && factoring(table, mark) == line;

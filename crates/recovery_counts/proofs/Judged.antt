@@ -5,7 +5,8 @@ use Rattle.std.specs.Prelude.{nat_le}
 use Rattle.std.proofs.lemmas.Bool.{true≢false, and_parts, eqb-true, eq-eqb}
 use Rattle.field_core.proofs.Sums.{sum_to-none, sum_to-suc, sum_to-same}
 use Rattle.blacs_grid.specs.Places.{width, rank_at}
-use Rattle.rank_machine.specs.Setting.{Job, Layout, Setting, job, job_in, no_job, some_job, layout, is_matrix, factored, grid_numbered}
+use Rattle.rank_machine.specs.declared.layout.Layout.{Layout}
+use Rattle.rank_machine.specs.Setting.{Job, Setting, job, job_in, no_job, some_job, layout, is_matrix, factored, grid_numbered}
 use Rattle.rank_machine.specs.State.{State}
 use Rattle.rank_machine.specs.Effect.{has_ended, is_dropped, is_live_matrix, is_live_list}
 use Rattle.rank_machine.specs.Losses.{lost_in, lost_now, holds_live}

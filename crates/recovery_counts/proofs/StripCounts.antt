@@ -10,7 +10,8 @@ use Rattle.rank_run.specs.Rounds.{steps}
 use Rattle.blacs_grid.specs.declared.Grid.{Grid}
 use Rattle.blacs_grid.specs.Places.{width, rank_at}
 use Rattle.rank_machine.specs.declared.slot.Slot.{Slot}
-use Rattle.rank_machine.specs.Setting.{Layout, Setting, layout, group_count}
+use Rattle.rank_machine.specs.declared.layout.Layout.{Layout}
+use Rattle.rank_machine.specs.Setting.{Setting, layout, group_count}
 use Rattle.rank_machine.specs.State.{State}
 use Rattle.rank_machine.specs.Legal.{lost_columns}
 use Rattle.rank_machine.specs.Losses.{lost_in}

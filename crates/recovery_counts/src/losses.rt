@@ -1,7 +1,8 @@
 //! Where the run may go on, few ranks of each process row were lost, and at most all are replaced.
 
 ghost use Rattle.std.specs.Prelude.{◌≡◌, ℕ, ◌<◌, ◌≤◌, true, length};
-ghost use Rattle.rank_machine.specs.Setting.{Layout, Setting, layout, factored, grid_numbered};
+ghost use Rattle.rank_machine.specs.declared.layout.Layout.{Layout};
+ghost use Rattle.rank_machine.specs.Setting.{Setting, layout, factored, grid_numbered};
 ghost use Rattle.rank_machine.specs.State.{State};
 ghost use Rattle.rank_machine.specs.Effect.{is_live_matrix, is_live_list};
 ghost use Rattle.rank_machine.specs.Losses.{lost_now};

@@ -3,7 +3,8 @@
 ghost use Rattle.std.specs.Prelude.{◌≡◌, ℕ, ◌+◌, ◌*◌, ◌≤◌, ◌++◌, List, length};
 ghost use Rattle.rank_run.specs.Rounds.{steps};
 ghost use Rattle.rank_machine.specs.declared.slot.Slot.{Slot};
-ghost use Rattle.rank_machine.specs.Setting.{Layout, Setting, layout, group_count};
+ghost use Rattle.rank_machine.specs.declared.layout.Layout.{Layout};
+ghost use Rattle.rank_machine.specs.Setting.{Setting, layout, group_count};
 ghost use Rattle.rank_machine.specs.State.{State};
 ghost use Rattle.rank_machine.specs.Losses.{lost_in};
 ghost use Rattle.rank_machine.specs.Legal.{lost_columns};

@@ -14,7 +14,8 @@ use Rattle.rank_machine.specs.declared.slot.Slot.{Slot}
 use Rattle.rank_machine.specs.declared.slot.Tile.{Tile}
 use Rattle.rank_machine.specs.declared.mark.Mark.{Mark}
 use Rattle.rank_machine.specs.declared.record.Rec.TheVariants as r
-use Rattle.rank_machine.specs.Setting.{Layout, Setting, layout, factored, group_count}
+use Rattle.rank_machine.specs.declared.layout.Layout.{Layout}
+use Rattle.rank_machine.specs.Setting.{Setting, layout, factored, group_count}
 use Rattle.rank_machine.specs.State.{State}
 use Rattle.rank_machine.specs.Effect.{words_of, numbers_of, is_live_matrix, is_live_list, factoring, is_live, after}
 use Rattle.rank_machine.specs.CodeLaw.{slot_at, has_low, has_open, is_open_group, data_word, code_word, symbol, weighted_sum, is_multiplier, is_open_column, is_strip_of, pivots_of, MatrixLaw, ListLaw, CodeLaw}

@@ -3,7 +3,8 @@ use Rattle.std.proofs.Common.{◌≡◌, ℕ, ◌<◌, true, false, Option, Some
 use Rattle.std.specs.Prelude.{unwrap_or}
 use Rattle.run_data.specs.Matrix.{AreWords}
 use Rattle.rank_machine.specs.declared.mark.Mark.{Mark}
-use Rattle.rank_machine.specs.Setting.{Layout, Setting, job, no_layout, factored}
+use Rattle.rank_machine.specs.declared.layout.Layout.{Layout}
+use Rattle.rank_machine.specs.Setting.{Setting, job, no_layout, factored}
 use Rattle.rank_machine.specs.Effect.{is_live_matrix}
 use Rattle.script_lines.specs.Layouts.{IsLayout}
 use Rattle.script_lines.specs.Sound.{IsSound}

@@ -6,7 +6,8 @@ use Rattle.blacs_grid.specs.Places.{width, rank_at}
 use Rattle.rank_machine.specs.declared.slot.SlotKind.TheVariants.{Data, Code, Low, Open, Pivots}
 use Rattle.rank_machine.specs.declared.slot.Slot.{Slot}
 use Rattle.rank_machine.specs.declared.mark.Mark.{Mark}
-use Rattle.rank_machine.specs.Setting.{Layout, Setting, is_matrix, layout, factored, group_count, panels}
+use Rattle.rank_machine.specs.declared.layout.Layout.{Layout}
+use Rattle.rank_machine.specs.Setting.{Setting, is_matrix, layout, factored, group_count, panels}
 use Rattle.rank_machine.specs.State.{State, base}
 use Rattle.rank_machine.specs.Effect.{is_live_matrix, is_live_list, is_live}
 use Rattle.rank_slots.specs.Cells.{IsTileOf, IsSomeTileOf}

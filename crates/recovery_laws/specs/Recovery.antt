@@ -11,7 +11,8 @@ use Rattle.rank_machine.specs.declared.slot.Slot.{Slot}
 use Rattle.rank_machine.specs.declared.slot.Tile.{Tile}
 use Rattle.rank_machine.specs.declared.slot.Tile.TheVariants.{Words}
 use Rattle.rank_machine.specs.declared.mark.Mark.{Mark}
-use Rattle.rank_machine.specs.Setting.{Layout, Setting, strip_rows, block_at, global_row, global_col}
+use Rattle.rank_machine.specs.declared.layout.Layout.{Layout}
+use Rattle.rank_machine.specs.Setting.{Setting, strip_rows, block_at, global_row, global_col}
 use Rattle.rank_machine.specs.State.{State, same_kind}
 use Rattle.rank_machine.specs.Effect.{words_of}
 use Rattle.rank_machine.specs.CodeLaw.{slot_at, has_low, has_open, is_open_group, MatrixLaw}

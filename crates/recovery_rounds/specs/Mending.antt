@@ -15,7 +15,8 @@ use Rattle.rank_machine.specs.declared.kernel.Kernel.TheVariants as k
 use Rattle.rank_machine.specs.declared.kernel.Cut.{Cut}
 use Rattle.rank_machine.specs.declared.kernel.Cut.TheVariants as cut
 use Rattle.rank_machine.specs.declared.mark.Mark.{Mark}
-use Rattle.rank_machine.specs.Setting.{Layout, Setting, strip_rows, block_at}
+use Rattle.rank_machine.specs.declared.layout.Layout.{Layout}
+use Rattle.rank_machine.specs.Setting.{Setting, strip_rows, block_at}
 use Rattle.rank_machine.specs.State.{State}
 use Rattle.rank_machine.specs.CodeLaw.{slot_at, has_low, is_open_group}
 use Rattle.rank_slots.specs.Rank.{Rank}

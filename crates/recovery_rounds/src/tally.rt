@@ -4,7 +4,8 @@ ghost use Rattle.std.specs.Prelude.{ℕ, ◌+◌, ◌*◌, ◌≤◌, ◌++◌, 
 ghost use Rattle.field_core.specs.Sums.{sum_to};
 ghost use Rattle.blacs_grid.specs.Places.{width};
 ghost use Rattle.rank_machine.specs.declared.mark.Mark.{Mark};
-ghost use Rattle.rank_machine.specs.Setting.{Layout, Setting};
+ghost use Rattle.rank_machine.specs.declared.layout.Layout.{Layout};
+ghost use Rattle.rank_machine.specs.Setting.{Setting};
 ghost use Rattle.rank_slots.specs.Stands.{records_of};
 ghost use Rattle.recovery_rounds.specs.Mending.{decoding_events, rebuilding_events, row_data_events, row_code_events};
 

@@ -11,7 +11,8 @@ use Rattle.rank_machine.specs.declared.slot.Slot.{Slot}
 use Rattle.rank_machine.specs.declared.slot.SlotKind.TheVariants.{Data, Code, Low, Open, Pivots}
 use Rattle.rank_machine.specs.declared.slot.Tile.TheVariants.{Index}
 use Rattle.rank_machine.specs.declared.kernel.Cut.TheVariants as cut
-use Rattle.rank_machine.specs.Setting.{Job, Layout, Setting, layout, is_matrix, factored, group_count, strip_rows, block_at}
+use Rattle.rank_machine.specs.declared.layout.Layout.{Layout}
+use Rattle.rank_machine.specs.Setting.{Job, Setting, layout, is_matrix, factored, group_count, strip_rows, block_at}
 use Rattle.rank_machine.specs.State.{State}
 use Rattle.rank_machine.specs.Effect.{replay, has_ended, is_dropped, is_live_matrix, is_live_list}
 use Rattle.rank_machine.specs.Legal.{lost_columns}

@@ -4,3 +4,4 @@ pub mod Columns
 pub mod Script
 pub mod Files
 pub mod Text
+pub mod Flips

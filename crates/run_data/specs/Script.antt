@@ -41,6 +41,11 @@ makes_records (c.Links n) = false
 makes_records (c.Order numbers) = false
 makes_records (c.Lose at rank) = false
 makes_records (c.Spares n) = false
+makes_records (c.Field n) = false
+makes_records (c.Ptran m n alpha a ia ja beta x ic jc) = true
+makes_records (c.Pgetri n a ia ja v b ib jb) = true
+makes_records (c.Flip name i j x) = false
+makes_records (c.Pverify name) = true
 
 -- the name that a command makes, and the name that it drops
 abbrev pub name_made : Command → Option (List ℕ)
@@ -88,6 +93,11 @@ name_at (c.Links n) word = None
 name_at (c.Order numbers) word = None
 name_at (c.Lose at rank) word = None
 name_at (c.Spares n) word = None
+name_at (c.Field n) word = None
+name_at (c.Ptran m n alpha a ia ja beta x ic jc) word = if word == 4 then Some a else if word == 8 then Some x else None
+name_at (c.Pgetri n a ia ja v b ib jb) word = if word == 2 then Some a else if word == 5 then Some v else if word == 6 then Some b else None
+name_at (c.Flip name i j x) word = if word == 1 then Some name else None
+name_at (c.Pverify name) word = if word == 1 then Some name else None
 
 -- how many lost ranks can be replaced, after one more command: what a spares line says, and without one there is no limit
 abbrev pub spares_after : Command → Option ℕ → Option ℕ
@@ -106,6 +116,11 @@ spares_after (c.Links n) before = before
 spares_after (c.Order numbers) before = before
 spares_after (c.Lose at rank) before = before
 spares_after (c.Spares n) before = Some n
+spares_after (c.Field n) before = before
+spares_after (c.Ptran m n alpha a ia ja beta x ic jc) before = before
+spares_after (c.Pgetri n a ia ja v b ib jb) before = before
+spares_after (c.Flip name i j x) before = before
+spares_after (c.Pverify name) before = before
 
 abbrev pub spares_from : Option ℕ → List Numbered → Option ℕ
 spares_from before [] = before
@@ -114,6 +129,38 @@ spares_from before (n ∷ ns) = spares_from (spares_after n.command before) ns
 -- how many lost ranks can be replaced, or None where there is no limit
 abbrev pub spares_of : List Numbered → Option ℕ
 spares_of ns = spares_from None ns
+
+-- ---- the field
+-- the modulus of the words of a run, after one more command
+abbrev pub modulus_after : Command → ℕ → ℕ
+modulus_after (c.Grid name p q f) before = before
+modulus_after (c.Matrix name grid m n mb nb rsrc csrc file) before = before
+modulus_after (c.Pgemm transa transb m n k alpha a ia ja b ib jb beta x ic jc) before = before
+modulus_after (c.Ptrsm side uplo transa diag m n alpha a ia ja b ib jb) before = before
+modulus_after (c.Pgetrf m n a ia ja v) before = before
+modulus_after (c.Pgetrs trans n nrhs a ia ja v b ib jb) before = before
+modulus_after (c.Pgemr2d m n a ia ja b ib jb ctxt) before = before
+modulus_after (c.Print name) before = before
+modulus_after (c.Pivots name) before = before
+modulus_after (c.Discard name) before = before
+modulus_after (c.Topology kind) before = before
+modulus_after (c.Links n) before = before
+modulus_after (c.Order numbers) before = before
+modulus_after (c.Lose at rank) before = before
+modulus_after (c.Spares n) before = before
+modulus_after (c.Field n) before = n
+modulus_after (c.Ptran m n alpha a ia ja beta x ic jc) before = before
+modulus_after (c.Pgetri n a ia ja v b ib jb) before = before
+modulus_after (c.Flip name i j x) before = before
+modulus_after (c.Pverify name) before = before
+
+abbrev pub modulus_from : ℕ → List Numbered → ℕ
+modulus_from before [] = before
+modulus_from before (n ∷ ns) = modulus_from (modulus_after n.command before) ns
+
+-- the modulus of all words of a run: what a field line says, and 65537 where there is none
+abbrev pub modulus_of : List Numbered → ℕ
+modulus_of ns = modulus_from 65537 ns
 
 abbrev pub is_grid : Command → Bool
 is_grid (c.Grid name p q f) = true
@@ -129,13 +176,13 @@ is_grid_line None = false
 is_grid_line (Some command) = is_grid command
 
 -- a grid counts by its number, and everything else by its line
-abbrev pub number_of : List Numbered → Option ℕ → Option ℕ
-number_of ns None = None
-number_of ns (Some line) = Some (if is_grid_line (command_at ns line) then grids_before ns line else line)
+abbrev pub operand_number : List Numbered → Option ℕ → Option ℕ
+operand_number ns None = None
+operand_number ns (Some line) = Some (if is_grid_line (command_at ns line) then grids_before ns line else line)
 
 abbrev pub meant : List Numbered → ℕ → Option (List ℕ) → Option ℕ
 meant ns line None = None
-meant ns line (Some name) = number_of ns (maker ns line name)
+meant ns line (Some name) = operand_number ns (maker ns line name)
 
 abbrev pub name_in : Option Command → ℕ → Option (List ℕ)
 name_in None word = None

@@ -1,10 +1,13 @@
 //! Commands.
-ghost use Rattle.std.specs.Prelude.{◌≡◌};
+ghost use Rattle.std.specs.Prelude.{◌≡◌, OnOk};
 ghost use Rattle.std.specs.Option.{option_copied};
+ghost use Rattle.run_data.specs.Flips.{pending_after};
 ghost use Rattle.run_data.specs.Script.{is_grid, is_name, maker_after, makes_records, name_at, name_dropped, name_made};
 
+use crate::flips::Flip;
 use crate::index_list::IndexList;
 use crate::word::Word;
+use std::alloc::AllocError as NoMemory;
 
 /// A command of a script: one variant a command, and in the order of its line one field for each word after the first.
 #[derive(Drop)]
@@ -130,10 +133,50 @@ pub enum Command {
     Spares {
         n: u32,
     },
+    /// `field n`: all words of the run are numbers modulo n.
+    Field {
+        n: u32,
+    },
+    /// `ptran M N ALPHA A IA JA BETA C IC JC`: C becomes ALPHA times the transpose of A, plus BETA C.
+    Ptran {
+        m: u32,
+        n: u32,
+        alpha: u32,
+        a: Word,
+        ia: u32,
+        ja: u32,
+        beta: u32,
+        c: Word,
+        ic: u32,
+        jc: u32,
+    },
+    /// `pgetri N A IA JA V B IB JB`: B becomes the inverse of the matrix with the factors A and the pivots V.
+    Pgetri {
+        n: u32,
+        a: Word,
+        ia: u32,
+        ja: u32,
+        v: Word,
+        b: Word,
+        ib: u32,
+        jb: u32,
+    },
+    /// `flip A I J X`: a word of A is silently wrong, by X too much, until the next `pverify A`.
+    Flip {
+        name: Word,
+        i: u32,
+        j: u32,
+        x: u32,
+    },
+    /// `pverify A`: wrong words of A are found and corrected.
+    Pverify {
+        name: Word,
+    },
 }
 
 impl Command {
-    /// Whether lines of this command make records of a journal. `grid`, `topology`, `links`, `order`, `lose` and `spares` make none.
+    /// Whether lines of this command make records of a journal. `grid`, `topology`, `links`, `order`, `lose`, `spares`, `field`
+    /// and `flip` make none.
     pub fn makes_records(&self) -> bool
         ensures { result ≡ makes_records self.now }
     {
@@ -144,6 +187,8 @@ impl Command {
             Command::Order { .. } => false,
             Command::Lose { .. } => false,
             Command::Spares { .. } => false,
+            Command::Field { .. } => false,
+            Command::Flip { .. } => false,
             _ => true,
         }
     }
@@ -175,6 +220,13 @@ impl Command {
             (Command::Pgetrs { b, .. }, 8) => b,
             (Command::Pgemr2d { a, .. }, 3) => a,
             (Command::Pgemr2d { b, .. }, 6) => b,
+            (Command::Ptran { a, .. }, 4) => a,
+            (Command::Ptran { c, .. }, 8) => c,
+            (Command::Pgetri { a, .. }, 2) => a,
+            (Command::Pgetri { v, .. }, 5) => v,
+            (Command::Pgetri { b, .. }, 6) => b,
+            (Command::Flip { name, .. }, 1) => name,
+            (Command::Pverify { name }, 1) => name,
             (Command::Print { name }, 1) => name,
             (Command::Pivots { name }, 1) => name,
             (Command::Discard { name }, 1) => name,
@@ -216,5 +268,28 @@ impl Command {
         } else {
             before
         }
+    }
+
+    /// The pending flips of a name after this command on a line, where `flips` are those before it.
+    pub(crate) fn flip(&self, line: u32, name: &[u8], flips: &mut Vec<Flip>) -> Result<(), NoMemory>
+        ensures { OnOk result (flips.new.items ≡ pending_after line self.now name.now flips.old.items) }
+    {
+        match self {
+            Command::Flip {
+                name: flipped,
+                i,
+                j,
+                x,
+            } if flipped.bytes() == name => flips.push(Flip {
+                line,
+                row: *i,
+                column: *j,
+                error: *x,
+            })?,
+            Command::Pverify { name: verified } if verified.bytes() == name => flips.clear(),
+            Command::Discard { name: dropped } if dropped.bytes() == name => flips.clear(),
+            _ => {}
+        }
+        Ok(())
     }
 }

@@ -3,6 +3,7 @@
 
 mod command;
 mod files;
+mod flips;
 mod index_list;
 mod matrix;
 mod script;
@@ -10,6 +11,7 @@ mod word;
 
 pub use command::Command;
 pub use files::Files;
+pub use flips::Flip;
 pub use index_list::IndexList;
 pub use matrix::{Mat, Part, put_part};
 pub use script::Script;

@@ -1,9 +1,11 @@
 //! Scripts.
-ghost use Rattle.std.specs.Prelude.{◌≡◌, ◌<◌, ◌≤◌, ◌^◌, [], ◌∷◌, ◌++◌, length, OnOk, OnErr};
-ghost use Rattle.run_data.specs.Script.{command_at, commands_of, grids_before, is_grid_line, maker, operand, spares_of};
+ghost use Rattle.std.specs.Prelude.{◌≡◌, ◌<◌, ◌≤◌, ◌^◌, [], ◌∷◌, ◌++◌, length, IfOk, OnOk, OnErr};
+ghost use Rattle.run_data.specs.Script.{command_at, commands_of, grids_before, is_grid_line, maker, modulus_of, operand, spares_of};
+ghost use Rattle.run_data.specs.Flips.{pending};
 ghost use Rattle.std.specs.Option.{option_copied};
 
 use crate::command::Command;
+use crate::flips::Flip;
 use std::alloc::{AllocError as NoMemory, Global};
 use std::marker::Model;
 
@@ -94,6 +96,22 @@ impl Script {
         spares_in(&self.lines)
     }
 
+    /// The modulus of all words of the run: what the `field` line says, the last one where there are several, and 65537 where the script
+    /// has none.
+    pub fn modulus(&self) -> u32
+        ensures { result ≡ modulus_of (commands_of self.now) }
+    {
+        modulus_in(&self.lines)
+    }
+
+    /// The flips of a name that are pending as seen from a line, in the order of their lines: those of earlier lines with no `pverify` of
+    /// that name, and no `drop`, between. It fails only where memory runs out.
+    pub fn pending(&self, alloc: Global, line: u32, name: &[u8]) -> Result<Vec<Flip>, NoMemory>
+        ensures { IfOk result (λ flips. flips.items ≡ pending (commands_of self.now) line name.now) }
+    {
+        pending_in(alloc, &self.lines, line, name)
+    }
+
     /// The lines.
     pub fn as_slice(&self) -> &[Option<Command>]
         ensures { result.now ≡ self.now }
@@ -165,4 +183,39 @@ fn spares_in(lines: &[Option<Command>]) -> Option<u32>
         }
     }
     spares
+}
+
+// What the last `field` line says, or 65537.
+fn modulus_in(lines: &[Option<Command>]) -> u32
+    requires { length lines.now < 2 ^ 32 }
+    ensures { result ≡ modulus_of (commands_of lines.now) }
+{
+    let mut modulus = 65537;
+    for i in 0..lines.len() {
+        if let Some(Command::Field { n }) = &lines[i] {
+            modulus = *n;
+        }
+    }
+    modulus
+}
+
+// The pending flips of a name as seen from a line.
+fn pending_in(
+    alloc: Global,
+    lines: &[Option<Command>],
+    line: u32,
+    name: &[u8],
+) -> Result<Vec<Flip>, NoMemory>
+    requires { length lines.now < 2 ^ 32 }
+    ensures { IfOk result (λ flips. flips.items ≡ pending (commands_of lines.now) line name.now) }
+{
+    let mut flips = Vec::new(alloc);
+    for i in 0..lines.len() {
+        if let Some(command) = &lines[i] {
+            if i + 1 < line as usize {
+                command.flip(i as u32 + 1, name, &mut flips)?;
+            }
+        }
+    }
+    Ok(flips)
 }

@@ -11,7 +11,8 @@ use Rattle.run_data.specs.Matrix.{entry}
 use Rattle.rank_machine.specs.declared.slot.SlotKind.TheVariants.{Data, Code, Low, Open, Pivots}
 use Rattle.rank_machine.specs.declared.slot.Slot.{Slot}
 use Rattle.rank_machine.specs.declared.mark.Mark.{Mark}
-use Rattle.rank_machine.specs.Setting.{Setting, Layout, layout, is_matrix, factored, group_count, block_at, global_col, global_row}
+use Rattle.rank_machine.specs.declared.layout.Layout.{Layout}
+use Rattle.rank_machine.specs.Setting.{Setting, layout, is_matrix, factored, group_count, block_at, global_col, global_row}
 use Rattle.rank_machine.specs.State.{State}
 use Rattle.rank_machine.specs.Effect.{words_of, numbers_of, is_live, is_live_matrix, is_live_list, has_ended}
 use Rattle.rank_machine.specs.CodeLaw.{CodeLaw, MatrixLaw, ListLaw, slot_at, has_low, has_open, is_open_group, data_word, code_word, symbol, weighted_sum, is_strip_of, pivots_of, is_multiplier, is_open_column}

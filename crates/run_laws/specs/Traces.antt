@@ -3,7 +3,8 @@ use Rattle.std.specs.Prelude.{◌≡◌, ◌<◌, ◌≤◌, ◌+◌, ◌*◌, �
 use Rattle.rank_machine.specs.declared.record.Rec.{Rec}
 use Rattle.rank_machine.specs.declared.record.Rec.TheVariants as r
 use Rattle.rank_machine.specs.declared.mark.Mark.{Mark}
-use Rattle.rank_machine.specs.Setting.{Job, Layout, Setting, ranks, layout, group_count}
+use Rattle.rank_machine.specs.declared.layout.Layout.{Layout}
+use Rattle.rank_machine.specs.Setting.{Job, Setting, ranks, layout, group_count}
 use Rattle.rank_machine.specs.State.{State, opened}
 use Rattle.rank_machine.specs.Effect.{after, is_live_matrix, is_live_list}
 use Rattle.rank_machine.specs.Held.{AreHeld}

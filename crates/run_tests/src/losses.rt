@@ -167,6 +167,28 @@ fn second_losses(rt: HostRuntime) {
     );
 }
 
+const IN_ANOTHER_FIELD: &[u8] =
+    b"field 65521\ngrid g 1 2 1\nmatrix A g 1 2 1 1 0 0 a.txt\nprint A\n";
+
+const LARGEST_AND_SEVEN: &[u8] = b"A 1 2\n65520 7\n";
+
+// Modulo 65521 the code column has other words, from which each lost rank's word comes back.
+#[test]
+fn survives_one_loss_in_another_field(rt: HostRuntime) {
+    check_rows(
+        &rt,
+        rt.alloc(),
+        IN_ANOTHER_FIELD,
+        b"65520 7\n",
+        &[
+            (b"", Status::Done, LARGEST_AND_SEVEN, b""),
+            (b"lose 10 0\n", Status::Done, LARGEST_AND_SEVEN, b""),
+            (b"lose 10 1\n", Status::Done, LARGEST_AND_SEVEN, b""),
+            (b"lose 10 2\n", Status::Done, LARGEST_AND_SEVEN, b""),
+        ],
+    );
+}
+
 const ALONE: &[u8] = b"grid g 1 1 0\nmatrix A g 1 1 1 1 0 0 a.txt\nprint A\n";
 
 const STARTED_AGAIN: &[u8] =

@@ -10,7 +10,7 @@ use Rattle.std.proofs.lemmas.Grind.{common_steps}
 use Rattle.std.proofs.lemmas.Option.{slice_get_read}
 use Rattle.io_edge.specs.Shelf.{Held}
 use Rattle.run_data.specs.Matrix.{Matrix, zero_matrix}
-use Rattle.run_data.specs.Script.{Numbered, commands_from, commands_of, command_at}
+use Rattle.run_data.specs.Script.{Numbered, commands_from, commands_of, command_at, modulus_of}
 use Rattle.run_data.specs.declared.command.Command.{Command}
 use Rattle.run_data.specs.declared.command.Command.TheVariants as c
 use Rattle.run_data.proofs.Lines.{command_at-before, command_at_found, command_at_past}
@@ -20,7 +20,7 @@ use Rattle.script_words.specs.Tables.{first_code}
 use Rattle.script_rules.specs.Rules.{word_rules}
 use Rattle.script_rules.specs.declared.told.Told.{Told}
 use Rattle.script_bounds.specs.Accepted.{broken_by, names_code, IsAccepted}
-use Rattle.script_rules.specs.Told.{told_without_losses}
+use Rattle.script_rules.specs.Told.{told_of_script}
 use Rattle.script_words.proofs.Tables.{or_none, first_none}
 use Rattle.scalapack_top.specs.declared.status.Status.{Status}
 use Rattle.scalapack_top.specs.Readings.{Readings, after_reads, readings_of}
@@ -28,7 +28,7 @@ use Rattle.scalapack_top.specs.Input.{◌>>=◌, matrix_from, file_then, files_f
 use Rattle.scalapack_top.specs.Reads.{unless_ended, name_then, names_from, AreMade}
 use Rattle.scalapack_top.specs.Causes.{FailsAs, IsStep}
 use Rattle.scalapack_top.specs.Read.{file_due, IsLine, files_read, files_names, IsPart, IsPut, IsAdded, NamesText}
-use Rattle.serial_laws.specs.Files.{HasFile, FileFits, HasFiles}
+use Rattle.serial_laws.specs.Files.{HasSizedFile, FileFits, HasFiles}
 use Rattle.scalapack_top.proofs.OneRead.{then_reads, rest_of, answer_now, answer_now-is, shelf_stays, shelf_then, are_of-rest, told_then, made_at, fails_on, fails_before}
 use Rattle.scalapack_top.proofs.Steps.{later_caused}
 
@@ -48,7 +48,7 @@ unbroken_text told script (c.Matrix name grid m n mb nb rsrc csrc file) e =
 unbroken_text told script command e = tt
 
 pub names_text : (script : List (Option Command)) → IsAccepted script → (i : ℕ) (command : Command) → i < length script → Some command ≡ get_or script i (Some command) → NamesText command
-names_text script a i command lt e = unbroken_text (told_without_losses (commands_of script)) (take i script) command (a.lines.kept i command (slice_get_read script (length script) i (Some command) refl lt e))
+names_text script a i command lt e = unbroken_text (told_of_script (commands_of script)) (take i script) command (a.lines.kept i command (slice_get_read script (length script) i (Some command) refl lt e))
 
 -- ---- files by line
 put_here : (files : Matrices) (line : ℕ) (a : Matrix) → map.get (map.insert files line a) line ≡ Some a
@@ -58,32 +58,32 @@ put_elsewhere : (files : Matrices) (line : ℕ) (a : Matrix) (k : ℕ) → k < l
 put_elsewhere files line a k lt = grind (arith, map.gets, rules)
 
 -- the files of earlier lines stay
-kept : (command : Command) (line k : ℕ) (old new : Matrices) → IsAdded line command old new → k < line → map.get new k ≡ map.get old k
-kept (c.Matrix name grid m n mb nb rsrc csrc file) line k old new p lt = ap (λ x. map.get x k) p.put ∙ put_elsewhere old line p.matrix k lt
-kept command line k old new e lt = ap (λ x. map.get x k) e
+kept : (p : ℕ) (command : Command) (line k : ℕ) (old new : Matrices) → IsAdded p line command old new → k < line → map.get new k ≡ map.get old k
+kept p (c.Matrix name grid m n mb nb rsrc csrc file) line k old new put lt = ap (λ x. map.get x k) put.put ∙ put_elsewhere old line put.matrix k lt
+kept p command line k old new e lt = ap (λ x. map.get x k) e
 
-fits_kept : (o : Option Command) (old new : Matrices) (k : ℕ) → map.get new k ≡ map.get old k → FileFits o old k → FileFits o new k
-fits_kept (Some (c.Matrix name grid m n mb nb rsrc csrc file)) old new k e h =
+fits_kept : (p : ℕ) (o : Option Command) (old new : Matrices) (k : ℕ) → map.get new k ≡ map.get old k → FileFits p o old k → FileFits p o new k
+fits_kept p (Some (c.Matrix name grid m n mb nb rsrc csrc file)) old new k e h =
     let same : file_of new k ≡ file_of old k = ap (λ (x : Option Matrix). unwrap_or x (zero_matrix 0 0)) e in
     file_fits m n old new k e same h
   where
-    file_fits : (m n : ℕ) (old new : Matrices) (k : ℕ) → map.get new k ≡ map.get old k → file_of new k ≡ file_of old k → HasFile m n old k → HasFile m n new k
+    file_fits : (m n : ℕ) (old new : Matrices) (k : ℕ) → map.get new k ≡ map.get old k → file_of new k ≡ file_of old k → HasSizedFile p m n old k → HasSizedFile p m n new k
     file_fits m n old new k e same h = record {
       there = e ∙ h.there ∙ ap (λ (x : Matrix). Some x) (sym same);
       residues = rw same h.residues;
     }
-fits_kept o old new k e h = tt
+fits_kept p o old new k e h = tt
 
 -- the file of a line, after it was added
-added_fits : (command : Command) (line : ℕ) (old new : Matrices) → IsAdded line command old new → FileFits (Some command) new line
-added_fits (c.Matrix name grid m n mb nb rsrc csrc file) line old new p = put_fits m n line old new p
+added_fits : (p : ℕ) (command : Command) (line : ℕ) (old new : Matrices) → IsAdded p line command old new → FileFits p (Some command) new line
+added_fits p (c.Matrix name grid m n mb nb rsrc csrc file) line old new put = put_fits m n line old new put
   where
-    put_fits : (m n line : ℕ) (old new : Matrices) → IsPut m n line old new → HasFile m n new line
-    put_fits m n line old new p =
-        let there : map.get new line ≡ Some p.matrix = ap (λ x. map.get x line) p.put ∙ put_here old line p.matrix in
-        let is : file_of new line ≡ p.matrix = ap (λ (x : Option Matrix). unwrap_or x (zero_matrix 0 0)) there in
-        record { there = there ∙ ap (λ (x : Matrix). Some x) (sym is); residues = rw is p.residues }
-added_fits command line old new p = tt
+    put_fits : (m n line : ℕ) (old new : Matrices) → IsPut p m n line old new → HasSizedFile p m n new line
+    put_fits m n line old new put =
+        let there : map.get new line ≡ Some put.matrix = ap (λ x. map.get x line) put.put ∙ put_here old line put.matrix in
+        let is : file_of new line ≡ put.matrix = ap (λ (x : Option Matrix). unwrap_or x (zero_matrix 0 0)) there in
+        record { there = there ∙ ap (λ (x : Matrix). Some x) (sym is); residues = rw is put.residues }
+added_fits p command line old new put = tt
 
 -- ---- one line, and then the rest
 bind_map : {A B C : Type 0} (r : Result A Status) (g : A → B) (k : B → Result C Status) → (r >>= λ a. k (g a)) ≡ ((r >>= λ a. Ok (g a)) >>= k)
@@ -95,9 +95,9 @@ names_on (Ok a) g b ns e = refl
 names_on (Err s) g b ns e = absurd cc
 
 -- the counts of a shelf don't fall at a line
-line_stays : {X : Type 0} (command : Command) (line : ℕ) (old new : Matrices) (t t' : Option Held) (f f' l l' : ℕ) (r : Result X Status) → IsLine line command old new t t' f f' l l' r → (f ≤ f') × (l ≤ l')
-line_stays (c.Matrix name grid m n mb nb rsrc csrc file) line old new t t' f f' l l' r step = (step.faults_stay, step.longs_stay)
-line_stays command line old new t t' f f' l l' r step = (step.faults_stay, step.longs_stay)
+line_stays : {X : Type 0} (p : ℕ) (command : Command) (line : ℕ) (old new : Matrices) (t t' : Option Held) (f f' l l' : ℕ) (r : Result X Status) → IsLine p line command old new t t' f f' l l' r → (f ≤ f') × (l ≤ l')
+line_stays p (c.Matrix name grid m n mb nb rsrc csrc file) line old new t t' f f' l l' r step = (step.faults_stay, step.longs_stay)
+line_stays p command line old new t t' f f' l l' r step = (step.faults_stay, step.longs_stay)
 
 -- ---- the lines read so far
 -- What the reads so far have answered and the reads to come make up the readings of the whole: what the whole comes to by them is
@@ -107,10 +107,13 @@ pub record GoesOn (script : List (Option Command)) (i : ℕ) (told now : Option 
   pub past : List (List ℕ)
   pub shelf : now ≡ option_map (after_reads past) told
   pub told_before : MatchOption told ⊤ (λ first. before (readings_of (after_reads past first)) ≡ readings_of first)
-  pub going : (rest : Readings) → files_read script (before rest) ≡ files_from (commands_from (suc i) (drop i script)) rest files
-  pub names : (rest : Readings) → files_names script (before rest) ≡ past ++ names_from (commands_from (suc i) (drop i script)) rest
+  pub going : (rest : Readings) → files_read script (before rest) ≡ files_from (modulus_of (commands_of script)) (commands_from (suc i) (drop i script)) rest files
+  pub names : (rest : Readings) → files_names script (before rest) ≡ past ++ names_from (modulus_of (commands_of script)) (commands_from (suc i) (drop i script)) rest
 
 module _ (script : List (Option Command)) (i : ℕ) (t now : Option Held) (files : Matrices) (g : GoesOn script i t now files) where
+  abbrev field : ℕ
+  field = modulus_of (commands_of script)
+
   -- the line has no words
   no_words : drop i script ≡ None ∷ drop (suc i) script → GoesOn script (suc i) t now files
   no_words next = record {
@@ -118,27 +121,27 @@ module _ (script : List (Option Command)) (i : ℕ) (t now : Option Held) (files
     past = g.past;
     shelf = g.shelf;
     told_before = g.told_before;
-    going = λ rest. g.going rest ∙ ap (λ ls. files_from (commands_from (suc i) ls) rest files) next;
-    names = λ rest. g.names rest ∙ ap (λ ls. g.past ++ names_from (commands_from (suc i) ls) rest) next;
+    going = λ rest. g.going rest ∙ ap (λ ls. files_from field (commands_from (suc i) ls) rest files) next;
+    names = λ rest. g.names rest ∙ ap (λ ls. g.past ++ names_from field (commands_from (suc i) ls) rest) next;
   }
 
   abbrev rest_due : Readings → Matrices → Result Matrices Status
-  rest_due rest more = files_from (commands_from (suc (suc i)) (drop (suc i) script)) rest more
+  rest_due rest more = files_from field (commands_from (suc (suc i)) (drop (suc i) script)) rest more
 
   abbrev rest_names : Readings → List (List ℕ)
-  rest_names rest = names_from (commands_from (suc (suc i)) (drop (suc i) script)) rest
+  rest_names rest = names_from field (commands_from (suc (suc i)) (drop (suc i) script)) rest
 
   -- the line has a command
   module _ (command : Command) (next : drop i script ≡ Some command ∷ drop (suc i) script) where
-    going_line : (rest : Readings) → files_read script (g.before rest) ≡ file_then (suc i) command rest files rest_due
-    going_line rest = g.going rest ∙ ap (λ ls. files_from (commands_from (suc i) ls) rest files) next
+    going_line : (rest : Readings) → files_read script (g.before rest) ≡ file_then field (suc i) command rest files rest_due
+    going_line rest = g.going rest ∙ ap (λ ls. files_from field (commands_from (suc i) ls) rest files) next
 
-    names_line : (rest : Readings) → files_names script (g.before rest) ≡ g.past ++ name_then (suc i) command rest rest_names
-    names_line rest = g.names rest ∙ ap (λ ls. g.past ++ names_from (commands_from (suc i) ls) rest) next
+    names_line : (rest : Readings) → files_names script (g.before rest) ≡ g.past ++ name_then field (suc i) command rest rest_names
+    names_line rest = g.names rest ∙ ap (λ ls. g.past ++ names_from field (commands_from (suc i) ls) rest) next
 
   -- the command is a matrix line, whose file was read or not
   module _ (name grid : List ℕ) (m n mb nb rsrc csrc : ℕ) (file : List ℕ) (next : drop i script ≡ Some (c.Matrix name grid m n mb nb rsrc csrc file) ∷ drop (suc i) script) (more : Matrices) (now' : Option Held) (f1 f' l1 l' : ℕ) {X : Type 0} where
-    module _ (r : Result X Status) (step : IsStep (λ (x : X). more) file (file_due (suc i) m n files) now now' f1 f' l1 l' r) where
+    module _ (r : Result X Status) (step : IsStep (λ (x : X). more) file (file_due field (suc i) m n files) now now' f1 f' l1 l' r) where
       abbrev with_file : Readings → Readings
       with_file rest = then_reads (answer_now now step.answer) rest
 
@@ -151,31 +154,31 @@ module _ (script : List (Option Command)) (i : ℕ) (t now : Option Held) (files
       told_after : MatchOption t ⊤ (λ first. g.before (with_file (readings_of (after_reads (g.past ++ file ∷ []) first))) ≡ readings_of first)
       told_after = told_then t now g.before g.past file step.answer g.shelf g.told_before
 
-      going_file : (rest : Readings) → files_read script (g.before (with_file rest)) ≡ (matrix_from (suc i) m n step.answer >>= λ a. rest_due rest (map.insert files (suc i) a))
-      going_file rest = going_line (c.Matrix name grid m n mb nb rsrc csrc file) next (with_file rest) ∙ ap (λ x. matrix_from (suc i) m n x >>= λ a. rest_due rest (map.insert files (suc i) a)) (answer_is rest)
+      going_file : (rest : Readings) → files_read script (g.before (with_file rest)) ≡ (matrix_from field (suc i) m n step.answer >>= λ a. rest_due rest (map.insert files (suc i) a))
+      going_file rest = going_line (c.Matrix name grid m n mb nb rsrc csrc file) next (with_file rest) ∙ ap (λ x. matrix_from field (suc i) m n x >>= λ a. rest_due rest (map.insert files (suc i) a)) (answer_is rest)
 
-      names_file : (rest : Readings) → files_names script (g.before (with_file rest)) ≡ g.past ++ file ∷ unless_ended (matrix_from (suc i) m n step.answer) (λ a. rest_names rest)
-      names_file rest = names_line (c.Matrix name grid m n mb nb rsrc csrc file) next (with_file rest) ∙ ap (λ x. g.past ++ file ∷ unless_ended (matrix_from (suc i) m n x) (λ a. rest_names rest)) (answer_is rest)
+      names_file : (rest : Readings) → files_names script (g.before (with_file rest)) ≡ g.past ++ file ∷ unless_ended (matrix_from field (suc i) m n step.answer) (λ a. rest_names rest)
+      names_file rest = names_line (c.Matrix name grid m n mb nb rsrc csrc file) next (with_file rest) ∙ ap (λ x. g.past ++ file ∷ unless_ended (matrix_from field (suc i) m n x) (λ a. rest_names rest)) (answer_is rest)
 
-    matrix_read : (x : X) → IsStep (λ (x : X). more) file (file_due (suc i) m n files) now now' f1 f' l1 l' (Ok x) → GoesOn script (suc i) t now' more
+    matrix_read : (x : X) → IsStep (λ (x : X). more) file (file_due field (suc i) m n files) now now' f1 f' l1 l' (Ok x) → GoesOn script (suc i) t now' more
     matrix_read x step = record {
       before = λ rest. g.before (with_file (Ok x) step rest);
       past = g.past ++ file ∷ [];
       shelf = shelf_after (Ok x) step;
       told_before = told_after (Ok x) step;
-      going = λ rest. going_file (Ok x) step rest ∙ bind_map (matrix_from (suc i) m n step.answer) (λ a. map.insert files (suc i) a) (rest_due rest) ∙ ap (λ r. r >>= rest_due rest) step.comes;
-      names = λ rest. names_file (Ok x) step rest ∙ ap (λ ns. g.past ++ file ∷ ns) (names_on (matrix_from (suc i) m n step.answer) (λ a. map.insert files (suc i) a) more (rest_names rest) step.comes)
+      going = λ rest. going_file (Ok x) step rest ∙ bind_map (matrix_from field (suc i) m n step.answer) (λ a. map.insert files (suc i) a) (rest_due rest) ∙ ap (λ r. r >>= rest_due rest) step.comes;
+      names = λ rest. names_file (Ok x) step rest ∙ ap (λ ns. g.past ++ file ∷ ns) (names_on (matrix_from field (suc i) m n step.answer) (λ a. map.insert files (suc i) a) more (rest_names rest) step.comes)
           ∙ sym (append_assoc g.past (file ∷ []) (rest_names rest));
     }
 
-    matrix_fails : (e : Status) (f l : ℕ) → f ≤ f1 → l ≤ l1 → IsStep (λ (x : X). more) file (file_due (suc i) m n files) now now' f1 f' l1 l' (Err e) → IsPart (λ (m : Matrices). m) (files_read script) (files_names script) t now' f f' l l' (Err e)
+    matrix_fails : (e : Status) (f l : ℕ) → f ≤ f1 → l ≤ l1 → IsStep (λ (x : X). more) file (file_due field (suc i) m n files) now now' f1 f' l1 l' (Err e) → IsPart (λ (m : Matrices). m) (files_read script) (files_names script) t now' f f' l l' (Err e)
     matrix_fails e f l fs ls step = record {
       readings = g.before (with_file (Err e) step (rest_of now'));
       are_told = are_of-rest t now' (λ rest. g.before (with_file (Err e) step rest)) (g.past ++ file ∷ []) (shelf_after (Err e) step) (told_after (Err e) step);
-      comes = subst (FailsAs e) (sym (going_file (Err e) step (rest_of now'))) (fails_on e (matrix_from (suc i) m n step.answer) (λ a. rest_due (rest_of now') (map.insert files (suc i) a)) fails);
+      comes = subst (FailsAs e) (sym (going_file (Err e) step (rest_of now'))) (fails_on e (matrix_from field (suc i) m n step.answer) (λ a. rest_due (rest_of now') (map.insert files (suc i) a)) fails);
       read = record {
         made = g.past ++ file ∷ [];
-        are = subst (λ due. AreMade e due (g.past ++ file ∷ [])) (sym (names_file (Err e) step (rest_of now'))) (made_at e (matrix_from (suc i) m n step.answer) g.past file (λ a. rest_names (rest_of now')) fails);
+        are = subst (λ due. AreMade e due (g.past ++ file ∷ [])) (sym (names_file (Err e) step (rest_of now'))) (made_at e (matrix_from field (suc i) m n step.answer) g.past file (λ a. rest_names (rest_of now')) fails);
         after = shelf_after (Err e) step;
       };
       failure = step.failure;
@@ -184,12 +187,12 @@ module _ (script : List (Option Command)) (i : ℕ) (t now : Option Held) (files
       caused = later_caused f f1 f' l l1 l' e fs ls step.caused;
     }
       where
-        fails : FailsAs e (matrix_from (suc i) m n step.answer)
-        fails = fails_before e (matrix_from (suc i) m n step.answer) (λ a. map.insert files (suc i) a) step.comes
+        fails : FailsAs e (matrix_from field (suc i) m n step.answer)
+        fails = fails_before e (matrix_from field (suc i) m n step.answer) (λ a. map.insert files (suc i) a) step.comes
 
   -- the line of any command was read
   line_read : {X : Type 0} (x : X) (command : Command) → drop i script ≡ Some command ∷ drop (suc i) script → (more : Matrices) (now' : Option Held) (f1 f' l1 l' : ℕ)
-      → IsLine (suc i) command files more now now' f1 f' l1 l' (Ok x) → IsAdded (suc i) command files more → GoesOn script (suc i) t now' more
+      → IsLine field (suc i) command files more now now' f1 f' l1 l' (Ok x) → IsAdded field (suc i) command files more → GoesOn script (suc i) t now' more
   line_read x (c.Matrix name grid m n mb nb rsrc csrc file) next more now' f1 f' l1 l' step added = matrix_read name grid m n mb nb rsrc csrc file next more now' f1 f' l1 l' x step
   line_read x command next more now' f1 f' l1 l' step added = subst (λ t'. GoesOn script (suc i) t t' more) (sym step.leaves) (record {
     before = g.before;
@@ -202,14 +205,14 @@ module _ (script : List (Option Command)) (i : ℕ) (t now : Option Held) (files
 
   -- the line of any command was not read
   line_fails : (X : Type 0) (e : Status) (command : Command) → drop i script ≡ Some command ∷ drop (suc i) script → (more : Matrices) (now' : Option Held) (f f1 f' l l1 l' : ℕ) → f ≤ f1 → l ≤ l1
-      → IsLine {X = X} (suc i) command files more now now' f1 f' l1 l' (Err e) → IsPart (λ (m : Matrices). m) (files_read script) (files_names script) t now' f f' l l' (Err e)
+      → IsLine {X = X} field (suc i) command files more now now' f1 f' l1 l' (Err e) → IsPart (λ (m : Matrices). m) (files_read script) (files_names script) t now' f f' l l' (Err e)
   line_fails X e (c.Matrix name grid m n mb nb rsrc csrc file) next more now' f f1 f' l l1 l' fs ls step = matrix_fails name grid m n mb nb rsrc csrc file next more now' f1 f' l1 l' e f l fs ls step
   line_fails X e command next more now' f f1 f' l l1 l' fs ls step = absurd step.ok
 
 -- the files of the first i lines were read
 pub record AreRead (script : List (Option Command)) (i : ℕ) (told now : Option Held) (f f' l l' : ℕ) (files : Matrices) : Type 0 where
   pub going : GoesOn script i told now files
-  pub fits : (line : ℕ) → line < suc i → FileFits (command_at (commands_of script) line) files line
+  pub fits : (line : ℕ) → line < suc i → FileFits (modulus_of (commands_of script)) (command_at (commands_of script) line) files line
   pub faults_stay : f ≤ f'
   pub longs_stay : l ≤ l'
 
@@ -226,7 +229,7 @@ none_read script t f l files e = record { going = start; fits = λ line lt. rw (
       past = [];
       shelf = shelf_stays t;
       told_before = told t;
-      going = λ rest. ap (λ m. files_from (commands_of script) rest m) (sym e);
+      going = λ rest. ap (λ m. files_from (modulus_of (commands_of script)) (commands_of script) rest m) (sym e);
       names = λ rest. refl;
     }
 
@@ -238,7 +241,7 @@ module _ (script : List (Option Command)) (i : ℕ) (t now : Option Held) (f f1 
       next : drop i script ≡ None ∷ drop (suc i) script
       next = drop-cons script i None lt ∙ ap (λ o. o ∷ drop (suc i) script) (sym e)
 
-      fit : (line : ℕ) → line < suc (suc i) → FileFits (command_at (commands_of script) line) files line
+      fit : (line : ℕ) → line < suc (suc i) → FileFits (modulus_of (commands_of script)) (command_at (commands_of script) line) files line
       fit line b = elim (cases_lt line (suc i)) [
         | inl low ↦ before.fits line low
         | inr ge ↦
@@ -246,10 +249,10 @@ module _ (script : List (Option Command)) (i : ℕ) (t now : Option Held) (f f1 
             let k : i ≡ line - 1 = omega arith in
             let short : line - 1 < length script = omega arith in
             let none : command_at (commands_of script) line ≡ None = command_at_found script line None (omega arith) short (e ∙ ap (λ j. get_or script j None) k) in
-            subst (λ o. FileFits o files line) (sym none) tt
+            subst (λ o. FileFits (modulus_of (commands_of script)) o files line) (sym none) tt
       ]
 
-  module _ (command : Command) (at : Some command ≡ get_or script i (Some command)) (line : ℕ) (is : line ≡ i + 1) where
+  module _ (command : Command) (at : Some command ≡ get_or script i (Some command)) (line : ℕ) (is : line ≡ i + 1) (p : ℕ) (field : p ≡ modulus_of (commands_of script)) where
     next_line : line ≡ suc i
     next_line = is ∙ add-one i
 
@@ -263,26 +266,26 @@ module _ (script : List (Option Command)) (i : ℕ) (t now : Option Held) (f f1 
         command_at_found script line (Some command) (omega (arith, next_line)) short (at ∙ ap (λ j. get_or script j (Some command)) k)
 
     -- a command's line
-    pub read_more : {X : Type 0} (x : X) (more : Matrices) (now' : Option Held) (f' l' : ℕ) → IsLine line command files more now now' f1 f' l1 l' (Ok x) → IsAdded line command files more → AreRead script (i + 1) t now' f f' l l' more
+    pub read_more : {X : Type 0} (x : X) (more : Matrices) (now' : Option Held) (f' l' : ℕ) → IsLine p line command files more now now' f1 f' l1 l' (Ok x) → IsAdded p line command files more → AreRead script (i + 1) t now' f f' l l' more
     read_more {X} x more now' f' l' step added = subst (λ j. AreRead script j t now' f f' l l' more) (sym (add-one i)) (record {
-      going = line_read script i t now files before.going x command next_command more now' f1 f' l1 l' (subst (λ k. IsLine k command files more now now' f1 f' l1 l' (Ok x)) next_line step) (subst (λ k. IsAdded k command files more) next_line added);
+      going = line_read script i t now files before.going x command next_command more now' f1 f' l1 l' (subst (λ k. IsLine (modulus_of (commands_of script)) k command files more now now' f1 f' l1 l' (Ok x)) next_line (subst (λ q. IsLine q line command files more now now' f1 f' l1 l' (Ok x)) field step)) (subst (λ k. IsAdded (modulus_of (commands_of script)) k command files more) next_line (subst (λ q. IsAdded q line command files more) field added));
       fits = fit;
-      faults_stay = let a = before.faults_stay in let b = (line_stays {X = X} command line files more now now' f1 f' l1 l' (Ok x) step).0 in omega (arith, a, b);
-      longs_stay = let a = before.longs_stay in let b = (line_stays {X = X} command line files more now now' f1 f' l1 l' (Ok x) step).1 in omega (arith, a, b);
+      faults_stay = let a = before.faults_stay in let b = (line_stays {X = X} p command line files more now now' f1 f' l1 l' (Ok x) step).0 in omega (arith, a, b);
+      longs_stay = let a = before.longs_stay in let b = (line_stays {X = X} p command line files more now now' f1 f' l1 l' (Ok x) step).1 in omega (arith, a, b);
     })
       where
-        fit : (k : ℕ) → k < suc (suc i) → FileFits (command_at (commands_of script) k) more k
+        fit : (k : ℕ) → k < suc (suc i) → FileFits (modulus_of (commands_of script)) (command_at (commands_of script) k) more k
         fit k b = elim (cases_lt k (suc i)) [
-          | inl low ↦ fits_kept (command_at (commands_of script) k) files more k (kept command line k files more added (omega (arith, next_line))) (before.fits k low)
+          | inl low ↦ fits_kept (modulus_of (commands_of script)) (command_at (commands_of script) k) files more k (kept p command line k files more added (omega (arith, next_line))) (before.fits k low)
           | inr ge ↦
               let same : line ≡ k = omega (arith, next_line) in
-              subst (λ n. FileFits (command_at (commands_of script) n) more n) same (subst (λ o. FileFits o more line) (sym command_here) (added_fits command line files more added))
+              subst (λ n. FileFits (modulus_of (commands_of script)) (command_at (commands_of script) n) more n) same (subst (λ o. FileFits (modulus_of (commands_of script)) o more line) (sym command_here) (subst (λ q. FileFits q (Some command) more line) field (added_fits p command line files more added)))
         ]
 
     -- a file was not read
-    pub read_fails : (X : Type 0) (more : Matrices) (now' : Option Held) (f' l' : ℕ) (e : Status) → IsLine {X = X} line command files more now now' f1 f' l1 l' (Err e) → IsPart (λ (m : Matrices). m) (files_read script) (files_names script) t now' f f' l l' (Err e)
+    pub read_fails : (X : Type 0) (more : Matrices) (now' : Option Held) (f' l' : ℕ) (e : Status) → IsLine {X = X} p line command files more now now' f1 f' l1 l' (Err e) → IsPart (λ (m : Matrices). m) (files_read script) (files_names script) t now' f f' l l' (Err e)
     read_fails X more now' f' l' e step =
-        line_fails script i t now files before.going X e command next_command more now' f f1 f' l l1 l' before.faults_stay before.longs_stay (subst (λ k. IsLine {X = X} k command files more now now' f1 f' l1 l' (Err e)) next_line step)
+        line_fails script i t now files before.going X e command next_command more now' f f1 f' l l1 l' before.faults_stay before.longs_stay (subst (λ k. IsLine {X = X} (modulus_of (commands_of script)) k command files more now now' f1 f' l1 l' (Err e)) next_line (subst (λ q. IsLine {X = X} q line command files more now now' f1 f' l1 l' (Err e)) field step))
 
 -- all lines were read
 drop_all : (xs : List (Option Command)) (i : ℕ) → length xs ≤ i → drop i xs ≡ []
@@ -293,10 +296,10 @@ module _ (script : List (Option Command)) (i : ℕ) (t now : Option Held) (f f' 
   all_read = record {
     readings = all.going.before (rest_of now);
     are_told = are_of-rest t now all.going.before all.going.past all.going.shelf all.going.told_before;
-    comes = all.going.going (rest_of now) ∙ ap (λ ls. files_from (commands_from (suc i) ls) (rest_of now) files) none;
+    comes = all.going.going (rest_of now) ∙ ap (λ ls. files_from (modulus_of (commands_of script)) (commands_from (suc i) ls) (rest_of now) files) none;
     read = record {
       made = all.going.past;
-      are = all.going.names (rest_of now) ∙ ap (λ ls. all.going.past ++ names_from (commands_from (suc i) ls) (rest_of now)) none ∙ append-nil all.going.past;
+      are = all.going.names (rest_of now) ∙ ap (λ ls. all.going.past ++ names_from (modulus_of (commands_of script)) (commands_from (suc i) ls) (rest_of now)) none ∙ append-nil all.going.past;
       after = all.going.shelf;
     };
     failure = tt;
@@ -311,12 +314,12 @@ module _ (script : List (Option Command)) (i : ℕ) (t now : Option Held) (f f' 
   pub all_there : HasFiles script files
   all_there = fit
     where
-      fit : (line : ℕ) → FileFits (command_at (commands_of script) line) files line
+      fit : (line : ℕ) → FileFits (modulus_of (commands_of script)) (command_at (commands_of script) line) files line
       fit line = elim (cases_lt line (suc i)) [
         | inl low ↦ all.fits line low
         | inr ge ↦
             let past : length script ≤ line - 1 = omega arith in
-            subst (λ o. FileFits o files line) (sym (command_at_past script line (omega arith) past)) tt
+            subst (λ o. FileFits (modulus_of (commands_of script)) o files line) (sym (command_at_past script line (omega arith) past)) tt
       ]
 
 -- the lines are those of the script

@@ -3,3 +3,4 @@ pub mod Steps
 pub mod Files
 pub mod Answered
 pub mod Runnable
+pub mod Fields

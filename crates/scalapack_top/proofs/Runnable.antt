@@ -2,8 +2,8 @@
 use Rattle.std.proofs.Common.{◌≡◌, ℕ, true, List, Option, Some, refl, sym, ap, subst, ◌∙◌}
 use Rattle.run_data.specs.declared.command.Command.{Command}
 use Rattle.run_data.specs.declared.command.Command.TheVariants as c
-use Rattle.run_data.specs.Script.{commands_of, command_at}
-use Rattle.rank_machine.specs.Setting.{Layout}
+use Rattle.run_data.specs.Script.{commands_of, command_at, modulus_of}
+use Rattle.rank_machine.specs.declared.layout.Layout.{Layout}
 use Rattle.rank_machine.specs.Scripts.{Matrices}
 use Rattle.script_lines.specs.Layouts.{makes_matrix}
 use Rattle.script_lines.proofs.JobAt.{layout-is}
@@ -15,15 +15,15 @@ use Rattle.whole_run.proofs.WholeText.{whole-text, text-begins}
 use Rattle.script_run.specs.Runnable as run
 use Rattle.script_run.proofs.AcceptedLayouts.{matrix_line-from}
 use Rattle.scalapack_top.specs.declared.words.Machine.TheVariants as machine
-use Rattle.serial_laws.specs.Files.{HasFile, FileFits}
-use Rattle.scalapack_top.specs.Read.{IsReady}
+use Rattle.serial_laws.specs.Files.{HasSizedFile, FileFits}
+use Rattle.scalapack_top.specs.Read.{IsPrepared}
 use Rattle.scalapack_top.specs.Status.{error_text, answer_of}
 use Rattle.scalapack_top.specs.Work.{EndsBy}
 
-module _ (script : List (Option Command)) (files : Matrices) (ready : IsReady machine.Ranks script files) where
+module _ (script : List (Option Command)) (files : Matrices) (ready : IsPrepared machine.Ranks script files) where
   -- the file of a matrix line
-  file_of_line : (line : ℕ) (name grid : List ℕ) (m n mb nb rsrc csrc : ℕ) (file : List ℕ) → command_at (commands_of script) line ≡ Some (c.Matrix name grid m n mb nb rsrc csrc file) → HasFile m n files line
-  file_of_line line name grid m n mb nb rsrc csrc file e = subst (λ o. FileFits o files line) e (ready.file line)
+  file_of_line : (line : ℕ) (name grid : List ℕ) (m n mb nb rsrc csrc : ℕ) (file : List ℕ) → command_at (commands_of script) line ≡ Some (c.Matrix name grid m n mb nb rsrc csrc file) → HasSizedFile (modulus_of (commands_of script)) m n files line
+  file_of_line line name grid m n mb nb rsrc csrc file e = subst (λ o. FileFits (modulus_of (commands_of script)) o files line) e (ready.file line)
 
   has_file : (line : ℕ) → makes_matrix script line ≡ true → run.HasFile script files line
   has_file line made =

@@ -4,7 +4,7 @@ use Rattle.std.specs.Option.{option_map}
 use Rattle.io_edge.specs.declared.shelf.ShelfFault.{ShelfFault}
 use Rattle.io_edge.specs.Shelf.{Held, read_answer}
 use Rattle.run_data.specs.declared.command.Command.{Command}
-use Rattle.run_data.specs.Script.{commands_of}
+use Rattle.run_data.specs.Script.{commands_of, modulus_of}
 use Rattle.rank_machine.specs.Scripts.{Matrices}
 use Rattle.scalapack_top.specs.declared.status.Status.{Status}
 use Rattle.scalapack_top.specs.declared.status.Status.TheVariants as status
@@ -56,7 +56,7 @@ module _ (m : Machine) (name : List ℕ) (t t1 : Option Held) (f f1 l l1 : ℕ) 
       comes = fails_on e (script_from m (one_reading 0 name)) (λ s. rest_due s (later one_reading)) script_fails;
       read = record {
         made = name ∷ [];
-        are = made_at e (script_from m (one_reading 0 name)) [] name (λ s. names_from (commands_of s) (later one_reading)) script_fails;
+        are = made_at e (script_from m (one_reading 0 name)) [] name (λ s. names_from (modulus_of (commands_of s)) (commands_of s) (later one_reading)) script_fails;
         after = one.leaves;
       };
       failure = one.failure;

@@ -6,7 +6,7 @@ use Rattle.io_edge.specs.declared.shelf.ShelfFault.TheVariants as shelf
 use Rattle.run_data.specs.Matrix.{Matrix}
 use Rattle.run_data.specs.declared.command.Command.{Command}
 use Rattle.run_data.specs.declared.command.Command.TheVariants as c
-use Rattle.run_data.specs.Script.{Numbered, commands_of}
+use Rattle.run_data.specs.Script.{Numbered, commands_of, modulus_of}
 use Rattle.rank_machine.specs.Scripts.{Matrices}
 use Rattle.script_words.specs.declared.fault.Refused.{Refused}
 use Rattle.script_text.specs.Script.{script_of}
@@ -64,23 +64,23 @@ script_in m bytes = of_text (script_of bytes) >>= λ script. runnable_by m scrip
 abbrev pub script_from : Machine → Result (List ℕ) ShelfFault → Result (List (Option Command)) Status
 script_from m answer = of_read 0 answer >>= λ bytes. script_in m bytes
 
--- the matrix of m rows and n columns that a read gives, for a matrix line
-abbrev pub matrix_from : ℕ → ℕ → ℕ → Result (List ℕ) ShelfFault → Result Matrix Status
-matrix_from line m n answer = of_read line answer >>= λ bytes. of_text (matrix_of bytes line m n)
+-- the matrix of m rows and n columns of words modulo p that a read gives, for a matrix line
+abbrev pub matrix_from : ℕ → ℕ → ℕ → ℕ → Result (List ℕ) ShelfFault → Result Matrix Status
+matrix_from p line m n answer = of_read line answer >>= λ bytes. of_text (matrix_of p bytes line m n)
 
 -- the file of a command's line is read, and then the rest goes on
-abbrev pub file_then : ℕ → Command → Readings → Matrices → (Readings → Matrices → Result Matrices Status) → Result Matrices Status
-file_then line (c.Matrix name grid m n mb nb rsrc csrc file) readings files rest = matrix_from line m n (readings 0 file) >>= λ matrix. rest (later readings) (map.insert files line matrix)
-file_then line _ readings files rest = rest readings files
+abbrev pub file_then : ℕ → ℕ → Command → Readings → Matrices → (Readings → Matrices → Result Matrices Status) → Result Matrices Status
+file_then p line (c.Matrix name grid m n mb nb rsrc csrc file) readings files rest = matrix_from p line m n (readings 0 file) >>= λ matrix. rest (later readings) (map.insert files line matrix)
+file_then p line _ readings files rest = rest readings files
 
--- the matrix files of commands, in their order, beside those that are there
-abbrev pub files_from : List Numbered → Readings → Matrices → Result Matrices Status
-files_from [] readings files = Ok files
-files_from (n ∷ ns) readings files = file_then n.line n.command readings files (λ r m. files_from ns r m)
+-- the matrix files of commands, in their order, beside those that are there, of words modulo p
+abbrev pub files_from : ℕ → List Numbered → Readings → Matrices → Result Matrices Status
+files_from p [] readings files = Ok files
+files_from p (n ∷ ns) readings files = file_then p n.line n.command readings files (λ r m. files_from p ns r m)
 
 -- the input of a script of this name, for what is to run it
 unfoldable pub input_from : Machine → List ℕ → Readings → Result Input Status
-input_from m name readings = script_from m (readings 0 name) >>= λ script. files_from (commands_of script) (later readings) map.empty >>= λ files. Ok (record { script = script; files = files })
+input_from m name readings = script_from m (readings 0 name) >>= λ script. files_from (modulus_of (commands_of script)) (commands_of script) (later readings) map.empty >>= λ files. Ok (record { script = script; files = files })
 
 -- the input that the words ask for
 abbrev pub input_of : List (List ℕ) → Readings → Result Input Status

@@ -9,7 +9,7 @@ use Rattle.io_edge.specs.Shelf.{Held}
 use Rattle.run_data.specs.Matrix.{Matrix}
 use Rattle.run_data.specs.declared.command.Command.{Command}
 use Rattle.run_data.specs.declared.command.Command.TheVariants as c
-use Rattle.run_data.specs.Script.{commands_of, command_at}
+use Rattle.run_data.specs.Script.{commands_of, command_at, modulus_of}
 use Rattle.rank_machine.specs.Scripts.{Matrices, file_of}
 use Rattle.script_bounds.specs.Accepted.{IsAccepted}
 use Rattle.script_rules.specs.Runs.{first_unrunnable}
@@ -49,9 +49,9 @@ settled file (Err shelf.Failed) = Err (status.ReadFault file)
 settled file (Err shelf.TooLong) = Err (status.Refused file 0 (pos 12))
 settled file (Err shelf.NoMemory) = Err status.NoMemory
 
--- the files with that of one matrix line
-abbrev pub file_due : ℕ → ℕ → ℕ → Matrices → Result (List ℕ) ShelfFault → Result Matrices Status
-file_due line m n files answer = matrix_from line m n answer >>= λ a. Ok (map.insert files line a)
+-- the files with that of one matrix line, of words modulo p
+abbrev pub file_due : ℕ → ℕ → ℕ → ℕ → Matrices → Result (List ℕ) ShelfFault → Result Matrices Status
+file_due p line m n files answer = matrix_from p line m n answer >>= λ a. Ok (map.insert files line a)
 
 -- nothing was read, and nothing has failed
 pub record IsNoRead {X : Type 0} (told told' : Option Held) (faults faults' longs longs' : ℕ) (result : Result X Status) : Type 0 where
@@ -61,30 +61,30 @@ pub record IsNoRead {X : Type 0} (told told' : Option Held) (faults faults' long
   pub longs_stay : longs ≤ longs'
 
 -- the files of matrix lines are read, and those of no other commands
-abbrev pub IsLine : {X : Type 0} → ℕ → Command → Matrices → Matrices → Option Held → Option Held → ℕ → ℕ → ℕ → ℕ → Result X Status → Type 0
-IsLine line (c.Matrix name grid m n mb nb rsrc csrc file) old new told told' f f' l l' result = IsStep (λ u. new) file (file_due line m n old) told told' f f' l l' result
-IsLine line _ old new told told' f f' l l' result = IsNoRead told told' f f' l l' result
+abbrev pub IsLine : {X : Type 0} → ℕ → ℕ → Command → Matrices → Matrices → Option Held → Option Held → ℕ → ℕ → ℕ → ℕ → Result X Status → Type 0
+IsLine p line (c.Matrix name grid m n mb nb rsrc csrc file) old new told told' f f' l l' result = IsStep (λ u. new) file (file_due p line m n old) told told' f f' l l' result
+IsLine p line _ old new told told' f f' l l' result = IsNoRead told told' f f' l l' result
 
 -- the files of a script, and their names
 abbrev pub files_read : List (Option Command) → Readings → Result Matrices Status
-files_read script readings = files_from (commands_of script) readings map.empty
+files_read script readings = files_from (modulus_of (commands_of script)) (commands_of script) readings map.empty
 
 abbrev pub files_names : List (Option Command) → Readings → List (List ℕ)
-files_names script readings = names_from (commands_of script) readings
+files_names script readings = names_from (modulus_of (commands_of script)) (commands_of script) readings
 
 abbrev pub input_read : Prepared → Input
 input_read p = record { script = p.script; files = p.files }
 
--- a matrix of m rows and n columns was put for a line
-pub record IsPut (m n line : ℕ) (old new : Matrices) : Type 0 where
+-- a matrix of m rows and n columns of words modulo p was put for a line
+pub record IsPut (p m n line : ℕ) (old new : Matrices) : Type 0 where
   pub matrix : Matrix
-  pub residues : HasResidues m n matrix
+  pub residues : HasResidues p m n matrix
   pub put : new ≡ map.insert old line matrix
 
 -- the same where the line's command is a matrix line, and nothing else
-abbrev pub IsAdded : ℕ → Command → Matrices → Matrices → Type 0
-IsAdded line (c.Matrix name grid m n mb nb rsrc csrc file) old new = IsPut m n line old new
-IsAdded line _ old new = new ≡ old
+abbrev pub IsAdded : ℕ → ℕ → Command → Matrices → Matrices → Type 0
+IsAdded p line (c.Matrix name grid m n mb nb rsrc csrc file) old new = IsPut p m n line old new
+IsAdded p line _ old new = new ≡ old
 
 -- a matrix line's FILE is text
 abbrev pub NamesText : Command → Type 0
@@ -97,7 +97,7 @@ RunsOn machine.Ranks script = first_unrunnable (commands_of script) ≡ None
 RunsOn machine.Serial script = Unit {0}
 
 -- an accepted script that can be run so, with the file of each of its matrix lines
-pub record IsReady (m : Machine) (script : List (Option Command)) (files : Matrices) : Type 0 where
+pub record IsPrepared (m : Machine) (script : List (Option Command)) (files : Matrices) : Type 0 where
   pub accepted : IsAccepted script
   pub runs : RunsOn m script
   pub file : HasFiles script files

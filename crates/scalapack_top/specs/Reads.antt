@@ -4,7 +4,7 @@ use Rattle.std.specs.Option.{option_map}
 use Rattle.io_edge.specs.Shelf.{Held}
 use Rattle.run_data.specs.declared.command.Command.{Command}
 use Rattle.run_data.specs.declared.command.Command.TheVariants as c
-use Rattle.run_data.specs.Script.{Numbered, commands_of}
+use Rattle.run_data.specs.Script.{Numbered, commands_of, modulus_of}
 use Rattle.scalapack_top.specs.declared.status.Status.{Status}
 use Rattle.scalapack_top.specs.declared.status.Status.TheVariants as status
 use Rattle.scalapack_top.specs.declared.words.Machine.{Machine}
@@ -18,18 +18,18 @@ unless_ended (Ok a) rest = rest a
 unless_ended (Err e) rest = []
 
 -- the file of a command's line, where it is a matrix line, and then the rest
-abbrev pub name_then : ℕ → Command → Readings → (Readings → List (List ℕ)) → List (List ℕ)
-name_then line (c.Matrix name grid m n mb nb rsrc csrc file) readings rest = file ∷ unless_ended (matrix_from line m n (readings 0 file)) (λ matrix. rest (later readings))
-name_then line _ readings rest = rest readings
+abbrev pub name_then : ℕ → ℕ → Command → Readings → (Readings → List (List ℕ)) → List (List ℕ)
+name_then p line (c.Matrix name grid m n mb nb rsrc csrc file) readings rest = file ∷ unless_ended (matrix_from p line m n (readings 0 file)) (λ matrix. rest (later readings))
+name_then p line _ readings rest = rest readings
 
--- the names of the matrix files that are read for commands, in order, up to the first that ends the work
-abbrev pub names_from : List Numbered → Readings → List (List ℕ)
-names_from [] readings = []
-names_from (n ∷ ns) readings = name_then n.line n.command readings (λ r. names_from ns r)
+-- the names of the matrix files that are read for commands over the field of modulus p, in order, up to the first that ends the work
+abbrev pub names_from : ℕ → List Numbered → Readings → List (List ℕ)
+names_from p [] readings = []
+names_from p (n ∷ ns) readings = name_then p n.line n.command readings (λ r. names_from p ns r)
 
 -- the names that are read for a script of this name: its own, and unless it is refused those of its matrix lines
 unfoldable pub names_read : Machine → List ℕ → Readings → List (List ℕ)
-names_read m name readings = name ∷ unless_ended (script_from m (readings 0 name)) (λ script. names_from (commands_of script) (later readings))
+names_read m name readings = name ∷ unless_ended (script_from m (readings 0 name)) (λ script. names_from (modulus_of (commands_of script)) (commands_of script) (later readings))
 
 -- the same where the words name a script, and nothing else
 abbrev pub names_for : Machine → Option (List ℕ) → Readings → List (List ℕ)

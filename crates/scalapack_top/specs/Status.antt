@@ -6,15 +6,15 @@ use Rattle.world_heal.specs.declared.healing.Drove.TheVariants as d
 use Rattle.scalapack_top.specs.declared.status.Status.{Status}
 use Rattle.scalapack_top.specs.declared.status.Status.TheVariants as status
 
-abbrev pub number_of : Status → ℕ
-number_of status.Done = 0
-number_of (status.Refused file line code) = 1
-number_of status.Usage = 2
-number_of (status.ReadFault file) = 3
-number_of status.WriteFault = 4
-number_of status.NoMemory = 5
-number_of (status.Beyond grid row) = 6
-number_of (status.NoSpare rank) = 7
+abbrev pub exit_number : Status → ℕ
+exit_number status.Done = 0
+exit_number (status.Refused file line code) = 1
+exit_number status.Usage = 2
+exit_number (status.ReadFault file) = 3
+exit_number status.WriteFault = 4
+exit_number status.NoMemory = 5
+exit_number (status.Beyond grid row) = 6
+exit_number (status.NoSpare rank) = 7
 
 -- the text on err, with a line feed at its end where there is one
 abbrev pub error_text : Status → List ℕ

@@ -1,6 +1,6 @@
 //! Reading one file from the shelf: the script, or the matrix of a line.
 ghost use Rattle.scalapack_top.specs.declared.status.Status.{Status};
-ghost use Rattle.std.specs.Prelude.{◌≡◌, ◌≤◌, length, IfOk, IfErr};
+ghost use Rattle.std.specs.Prelude.{◌≡◌, ◌<◌, ◌≤◌, length, IfOk, IfErr};
 ghost use Rattle.script_bounds.specs.Accepted.{IsAccepted};
 ghost use Rattle.script_text.specs.Script.{script_of};
 ghost use Rattle.script_words.specs.MatrixFile.{matrix_of, HasResidues};
@@ -104,13 +104,21 @@ fn script_in(alloc: Global, machine: Machine, bytes: &[u8]) -> Result<Script, St
 }
 
 // The matrix that bytes spell.
-fn matrix_in(alloc: Global, bytes: &[u8], file: u32, m: u32, n: u32) -> Result<Mat, Status>
-    requires { length bytes.now ≤ 16777216 }
-    ensures due { Comes (λ a. a) result (of_text (matrix_of bytes.now file m n)) }
+fn matrix_in(
+    alloc: Global,
+    bytes: &[u8],
+    file: u32,
+    m: u32,
+    n: u32,
+    modulus: u32,
+) -> Result<Mat, Status>
+    requires size { length bytes.now ≤ 16777216 }
+    requires modulus { 0 < modulus }
+    ensures due { Comes (λ a. a) result (of_text (matrix_of modulus bytes.now file m n)) }
     ensures fault { IfErr result IsOfText }
-    ensures residues { IfOk result (HasResidues m n) }
+    ensures residues { IfOk result (HasResidues modulus m n) }
 {
-    match parse_matrix(alloc, bytes, file, m, n) {
+    match parse_matrix(alloc, bytes, file, m, n, modulus) {
         Ok(matrix) => Ok(matrix),
         Err(TextFault::NoMemory) => Err(Status::NoMemory),
         Err(TextFault::Refused(r)) => Err(refused(r)),
@@ -134,7 +142,7 @@ pub fn read_script<F: Shelf>(
     }
 }
 
-/// Reads the matrix of m rows and n columns of a file, for a matrix line.
+/// Reads the matrix of m rows and n columns of words below a modulus of a file, for a matrix line.
 pub fn read_matrix<F: Shelf>(
     alloc: Global,
     shelf: &mut F,
@@ -142,12 +150,14 @@ pub fn read_matrix<F: Shelf>(
     line: u32,
     m: u32,
     n: u32,
+    modulus: u32,
 ) -> Result<Mat, Status>
-    ensures read { IsStep (λ a. a) name.now (matrix_from line m n) (F.told shelf.old) (F.told shelf.new) (F.faults shelf.old) (F.faults shelf.new) (F.longs shelf.old) (F.longs shelf.new) result }
-    ensures residues { IfOk result (HasResidues m n) }
+    requires { 0 < modulus }
+    ensures read { IsStep (λ a. a) name.now (matrix_from modulus line m n) (F.told shelf.old) (F.told shelf.new) (F.faults shelf.old) (F.faults shelf.new) (F.longs shelf.old) (F.longs shelf.new) result }
+    ensures residues { IfOk result (HasResidues modulus m n) }
 {
     match read_file(alloc, shelf, name, line) {
-        Ok(bytes) => matrix_in(alloc, &bytes, line, m, n),
+        Ok(bytes) => matrix_in(alloc, &bytes, line, m, n, modulus),
         Err(e) => Err(e),
     }
 }

@@ -1,6 +1,6 @@
 //! What becomes of a call, and what it writes on err.
 ghost use Rattle.std.specs.Prelude.{◌≡◌};
-ghost use Rattle.scalapack_top.specs.Status.{number_of};
+ghost use Rattle.scalapack_top.specs.Status.{exit_number};
 
 /// What became of a call.
 #[derive(Clone, Copy, Debug, PartialEq, Eq)]
@@ -29,7 +29,7 @@ pub enum Status {
 impl Status {
     /// The number that the program ends with.
     pub fn number(&self) -> u8
-        ensures { result ≡ number_of self.now }
+        ensures { result ≡ exit_number self.now }
     {
         match self {
             Status::Done => 0,

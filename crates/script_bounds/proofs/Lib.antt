@@ -1,4 +1,6 @@
 pub mod Examples
+pub mod Fields
+pub mod Flipping
 pub mod Limits
 pub mod Operands
 pub mod Sized

@@ -2,7 +2,7 @@
 use Rattle.std.proofs.Common.{◌≡◌, ℕ, zero, suc, ◌+◌, ◌-◌, ◌*◌, ◌==◌, ◌<◌, ◌≤◌, Bool, true, false, cond, leb, List, [], ◌∷◌, ◌++◌, length, get_or, take, Option, Some, None, refl, sym, ap, subst, ◌∙◌, arith}
 use Rattle.std.specs.Prelude.{if◌then◌else◌, is_none, slice_get, ◌&&◌, ◌||◌}
 use Rattle.std.specs.Str.{IsUtf8}
-use Rattle.std.proofs.lemmas.Bool.{eqb-true, ltb-true, leb-true, false≢true}
+use Rattle.std.proofs.lemmas.Bool.{ltb-true, leb-true, false≢true}
 use Rattle.std.proofs.lemmas.Option.{same_Some, slice_get_within, slice_get-get_or}
 use Rattle.std.proofs.lemmas.Grind.{common_steps}
 use Rattle.std.proofs.Math.Seq.{take-suc}
@@ -12,20 +12,20 @@ use Rattle.array_desc.specs.Descriptors.{is_between_one_and, desc_of, IsDesc}
 use Rattle.blacs_grid.specs.Limits.{process_limit, code_column_limit, rank_limit, IsGrid}
 use Rattle.run_data.specs.declared.command.Command.{Command}
 use Rattle.run_data.specs.declared.command.Command.TheVariants.{Grid, Matrix, Print, Discard, Pgetrf, Links, Lose}
-use Rattle.run_data.specs.Script.{Numbered, commands_of, command_at, maker, is_grid_line, grids_before, number_of, meant, name_in, operand}
+use Rattle.run_data.specs.Script.{Numbered, commands_of, command_at, maker, is_grid_line, grids_before, operand_number, meant, name_in, operand}
 use Rattle.run_data.proofs.Lines.{said, command_at-before, command_at-commands_from}
 use Rattle.script_words.specs.declared.kinds.Kind.TheVariants.{NewName, GridName, MatrixName, ThingName, FileName}
-use Rattle.script_rules.specs.declared.layouts.Layout.{Layout}
-use Rattle.script_rules.specs.Rules.{live_matrices, matrix_lines, command_on, maker_command, is_matrix_line, is_list_line, process_rows, process_columns, layout_on, layout_made, layout_of, factored_made, ranks_of, ranks_made, word_rules, grid_rules, matrix_rules, link_lines, links_rules, lose_rules, rules}
+use Rattle.script_rules.specs.declared.distributions.Distribution.{Distribution}
+use Rattle.script_rules.specs.Rules.{live_matrices, matrix_lines, command_on, maker_command, is_matrix_line, is_list_line, process_rows, process_columns, distribution_on, distribution_made, distribution_of, ranks_of, ranks_made, word_rules, grid_rules, matrix_rules, link_lines, links_rules, lose_rules, rules}
 use Rattle.script_words.specs.Tables.{first_code}
 use Rattle.script_words.specs.Limits.{capacity_limit}
-use Rattle.script_rules.specs.Told.{told_without_losses}
+use Rattle.script_rules.specs.Told.{told_of_script}
 use Rattle.script_bounds.specs.Steps.{IsInRange}
 use Rattle.script_rules.specs.Runs.{can_run, first_unrunnable}
 use Rattle.script_bounds.specs.Accepted.{named_words, count_rules, names_code, broken_by, KeepsRules}
 use Rattle.script_rules.proofs.Counting.{total-append, commands_of-none, commands_of-some}
 use Rattle.script_words.proofs.Tables.{or_none, all_kept}
-use Rattle.script_rules.proofs.Before.{length-take_le, maker-take, maker-lt, maker_command-take}
+use Rattle.script_rules.proofs.Before.{length-take_le, maker-take, maker_command-take}
 
 -- ---- the command on a line
 
@@ -59,12 +59,12 @@ command_at-from_OnLine script place c e =
 pub record Kept (script : List (Option Command)) (place : ℕ) (c : Command) : Type 0 where
   pub count : first_code (count_rules c) ≡ None
   pub names : names_code (commands_of (take place script)) (suc place) (named_words c) ≡ None
-  pub own : first_code (rules (told_without_losses (commands_of script)) (commands_of (take place script)) (suc place) c) ≡ None
+  pub own : first_code (rules (told_of_script (commands_of script)) (commands_of (take place script)) (suc place) c) ≡ None
 
 pub kept_on : (script : List (Option Command)) (place : ℕ) (c : Command) → KeepsRules script → slice_get script place ≡ Some (Some c) → Kept script place c
 unfolding broken_by
 kept_on script place c h e =
-    let told = told_without_losses (commands_of script) in
+    let told = told_of_script (commands_of script) in
     let front = take place script in
     let size : length front ≡ place = length-take_le script place (omega (arith, slice_get_within script place (Some c) e)) in
     let one = or_none (first_code (count_rules c)) _ (h.kept place c e) in
@@ -228,8 +228,8 @@ entries_in_range p q live lines m n mb nb rsrc csrc e ctxt =
       local_rows = refl;
     }
 
-operand_of : (cs : List Numbered) (line word : ℕ) (c : Command) (name : List ℕ) (at : ℕ) → command_at cs line ≡ Some c → name_in (Some c) word ≡ Some name → maker cs line name ≡ Some at → operand cs line word ≡ number_of cs (Some at)
-operand_of cs line word c name at e w m = ap (λ o. meant cs line (name_in o word)) e ∙ ap (meant cs line) w ∙ ap (number_of cs) m
+operand_of : (cs : List Numbered) (line word : ℕ) (c : Command) (name : List ℕ) (at : ℕ) → command_at cs line ≡ Some c → name_in (Some c) word ≡ Some name → maker cs line name ≡ Some at → operand cs line word ≡ operand_number cs (Some at)
+operand_of cs line word c name at e w m = ap (λ o. meant cs line (name_in o word)) e ∙ ap (meant cs line) w ∙ ap (operand_number cs) m
 
 pub matrix_kept : (script : List (Option Command)) (line : ℕ) (name grid : List ℕ) (m n mb nb rsrc csrc : ℕ) (file : List ℕ) → KeepsRules script →
     command_at (commands_of script) line ≡ Some (Matrix name grid m n mb nb rsrc csrc file) → MatrixKept (commands_of script) line grid m n mb nb rsrc csrc file
@@ -375,7 +375,7 @@ list_name_kept script line m n a ia ja v h e =
 -- ---- the matrices that names mean
 
 -- a matrix in range
-pub record HasSizes (a : Layout) : Type 0 where
+pub record HasSizes (a : Distribution) : Type 0 where
   pub in_range : IsInRange a
   pub some_rows : 1 ≤ a.m
   pub rows : a.m ≤ 1024
@@ -408,31 +408,31 @@ sizes_of p q f grid m n mb nb rsrc csrc limits d = record {
 -- the matrix that a `matrix` line makes
 pub sizes_of_line : (script : List (Option Command)) (line : ℕ) (name grid : List ℕ) (m n mb nb rsrc csrc : ℕ) (file : List ℕ) → KeepsRules script →
     command_at (commands_of script) line ≡ Some (Matrix name grid m n mb nb rsrc csrc file) →
-    HasSizes (layout_on (maker (commands_of script) line grid) (maker_command (commands_of script) line grid) m n mb nb rsrc csrc)
+    HasSizes (distribution_on (maker (commands_of script) line grid) (maker_command (commands_of script) line grid) m n mb nb rsrc csrc)
 sizes_of_line script line name grid m n mb nb rsrc csrc file h e =
     let cs = commands_of script in
     let kept = matrix_kept script line name grid m n mb nb rsrc csrc file h e in
     let on = kept.on in
-    let is : layout_on (maker cs line grid) (maker_command cs line grid) m n mb nb rsrc csrc ≡ record { grid = on.at; p = on.p; q = on.q; f = on.f; m = m; n = n; mb = mb; nb = nb; rsrc = rsrc; csrc = csrc } =
-    ap (λ o. layout_on o (command_on cs o) m n mb nb rsrc csrc) on.maker_is ∙ ap (λ o. layout_on (Some on.at) o m n mb nb rsrc csrc) on.grid in
+    let is : distribution_on (maker cs line grid) (maker_command cs line grid) m n mb nb rsrc csrc ≡ record { grid = on.at; p = on.p; q = on.q; f = on.f; m = m; n = n; mb = mb; nb = nb; rsrc = rsrc; csrc = csrc } =
+    ap (λ o. distribution_on o (command_on cs o) m n mb nb rsrc csrc) on.maker_is ∙ ap (λ o. distribution_on (Some on.at) o m n mb nb rsrc csrc) on.grid in
     subst HasSizes (sym is) (sizes_of on.p on.q on.f on.at m n mb nb rsrc csrc kept.limits (kept.in_range 0))
 
 -- the matrix that a name means
-pub sizes_of_name : (script : List (Option Command)) (line : ℕ) (name : List ℕ) → KeepsRules script → is_matrix_line (maker_command (commands_of script) line name) ≡ true → HasSizes (layout_of (commands_of script) line name)
+pub sizes_of_name : (script : List (Option Command)) (line : ℕ) (name : List ℕ) → KeepsRules script → is_matrix_line (maker_command (commands_of script) line name) ≡ true → HasSizes (distribution_of (commands_of script) line name)
 sizes_of_name script line name h t =
     let cs = commands_of script in
     let means = MeansMatrix-from_test cs line name t in
-    let is : layout_of cs line name ≡ layout_on (maker cs means.at means.grid) (maker_command cs means.at means.grid) means.m means.n means.mb means.nb means.rsrc means.csrc =
-    ap (λ o. layout_made cs o (command_on cs o)) means.maker_is ∙ ap (layout_made cs (Some means.at)) means.matrix in
+    let is : distribution_of cs line name ≡ distribution_on (maker cs means.at means.grid) (maker_command cs means.at means.grid) means.m means.n means.mb means.nb means.rsrc means.csrc =
+    ap (λ o. distribution_made cs o (command_on cs o)) means.maker_is ∙ ap (distribution_made cs (Some means.at)) means.matrix in
     subst HasSizes (sym is) (sizes_of_line script means.at means.made means.grid means.m means.n means.mb means.nb means.rsrc means.csrc means.file h means.matrix)
 
 -- what the steps of a line need of a matrix
-pub layout_in_range : (script : List (Option Command)) (line : ℕ) (name : List ℕ) → KeepsRules script → is_matrix_line (maker_command (commands_of script) line name) ≡ true → IsInRange (layout_of (commands_of script) line name)
-layout_in_range script line name h t = (sizes_of_name script line name h t).in_range
+pub distribution_in_range : (script : List (Option Command)) (line : ℕ) (name : List ℕ) → KeepsRules script → is_matrix_line (maker_command (commands_of script) line name) ≡ true → IsInRange (distribution_of (commands_of script) line name)
+distribution_in_range script line name h t = (sizes_of_name script line name h t).in_range
 
 pub line_in_range : (script : List (Option Command)) (line : ℕ) (name grid : List ℕ) (m n mb nb rsrc csrc : ℕ) (file : List ℕ) → KeepsRules script →
     command_at (commands_of script) line ≡ Some (Matrix name grid m n mb nb rsrc csrc file) →
-    IsInRange (layout_on (maker (commands_of script) line grid) (maker_command (commands_of script) line grid) m n mb nb rsrc csrc)
+    IsInRange (distribution_on (maker (commands_of script) line grid) (maker_command (commands_of script) line grid) m n mb nb rsrc csrc)
 line_in_range script line name grid m n mb nb rsrc csrc file h e = (sizes_of_line script line name grid m n mb nb rsrc csrc file h e).in_range
 
 -- ---- all ranks
@@ -447,7 +447,7 @@ ranks_more script place (Some c) h lt e le =
     let few : ranks_of front + ranks_made c ≤ rank_limit = by_command c (kept_on script place c h e).own in
     subst (λ ns. ranks_of ns ≤ rank_limit) (sym (commands_of-some (take place script) (suc place) c (omega (arith, size)))) (omega (arith, more, few))
   where
-    by_command : (c : Command) → first_code (rules (told_without_losses (commands_of script)) (commands_of (take place script)) (suc place) c) ≡ None → ranks_of (commands_of (take place script)) + ranks_made c ≤ rank_limit
+    by_command : (c : Command) → first_code (rules (told_of_script (commands_of script)) (commands_of (take place script)) (suc place) c) ≡ None → ranks_of (commands_of (take place script)) + ranks_made c ≤ rank_limit
     by_command (Grid name p q f) own = (grid_limits (ranks_of (commands_of (take place script))) p q f own).1
     by_command c own = omega (arith, le)
 

@@ -1,5 +1,5 @@
 -- Scripts that break no rule.
-use Rattle.std.specs.Prelude.{◌≡◌, ℕ, suc, ◌≤◌, Bool, true, false, nat_le, nat_lt, List, [], ◌∷◌, length, take, slice_get, Option, Some, None, ℤ, pos}
+use Rattle.std.specs.Prelude.{◌≡◌, ℕ, suc, ◌≤◌, Bool, nat_le, List, [], ◌∷◌, length, take, slice_get, Option, Some, None, ℤ, pos}
 use Rattle.std.specs.Option.{option_or}
 use Rattle.run_data.specs.declared.command.Command.{Command}
 use Rattle.run_data.specs.declared.command.Command.TheVariants as c
@@ -9,8 +9,8 @@ use Rattle.script_words.specs.declared.kinds.Kind.TheVariants.{NewName, GridName
 use Rattle.script_words.specs.Limits.{line_limit, record_limit}
 use Rattle.script_rules.specs.declared.told.Told.{Told}
 use Rattle.script_words.specs.Tables.{first_code}
-use Rattle.script_rules.specs.Rules.{word_rules, layout_of, rules}
-use Rattle.script_rules.specs.Told.{told_without_losses, has_loss}
+use Rattle.script_rules.specs.Rules.{word_rules, rules}
+use Rattle.script_rules.specs.Told.{told_of_script}
 use Rattle.script_bounds.specs.Bounds.{bound}
 
 -- the names of a command and its file, with what each stands for, from left to right
@@ -30,6 +30,11 @@ named_words (c.Links n) = []
 named_words (c.Order numbers) = []
 named_words (c.Lose at rank) = []
 named_words (c.Spares n) = []
+named_words (c.Field n) = []
+named_words (c.Ptran m n alpha a ia ja beta x ic jc) = (MatrixName, a) ∷ (MatrixName, x) ∷ []
+named_words (c.Pgetri n a ia ja v b ib jb) = (MatrixName, a) ∷ (ListName, v) ∷ (MatrixName, b) ∷ []
+named_words (c.Flip name i j x) = (MatrixName, name) ∷ []
+named_words (c.Pverify name) = (MatrixName, name) ∷ []
 
 -- the first of these words that breaks a rule
 abbrev pub names_code : List Numbered → ℕ → List (Kind × List ℕ) → Option ℤ
@@ -48,19 +53,12 @@ broken_by told script c =
     option_or (first_code (count_rules c))
     (option_or (names_code (commands_of script) (suc (length script)) (named_words c)) (first_code (rules told (commands_of script) (suc (length script)) c)))
 
--- a script none of whose lines breaks a rule after the lines before it; the rule that keeps `lose` lines and factorizations with code
--- columns apart is left out
+-- a script none of whose lines breaks a rule after the lines before it
 pub record KeepsRules (script : List (Option Command)) : Type 0 where
   pub few : length script ≤ line_limit
-  pub kept : (i : ℕ) (c : Command) → slice_get script i ≡ Some (Some c) → broken_by (told_without_losses (commands_of script)) (take i script) c ≡ None
-
--- a command factors a matrix with code columns
-abbrev pub factors_code : List Numbered → ℕ → Command → Bool
-factors_code cs line (c.Pgetrf m n a ia ja v) = nat_lt 0 (layout_of cs line a).f
-factors_code cs line _ = false
+  pub kept : (i : ℕ) (c : Command) → slice_get script i ≡ Some (Some c) → broken_by (told_of_script (commands_of script)) (take i script) c ≡ None
 
 -- a script that is accepted
 pub record IsAccepted (script : List (Option Command)) : Type 0 where
   pub lines : KeepsRules script
-  pub apart : has_loss (commands_of script) ≡ true → (i : ℕ) (c : Command) → slice_get script i ≡ Some (Some c) → factors_code (commands_of script) (suc i) c ≡ false
   pub bounded : bound (commands_of script) ≤ record_limit

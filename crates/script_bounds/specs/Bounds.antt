@@ -1,13 +1,14 @@
 -- How many records a script makes at most.
-use Rattle.std.specs.Prelude.{ℕ, ◌+◌, ◌*◌, ◌==◌, if◌then◌else◌, Bool, false, ◌||◌, max, List, [], ◌∷◌, Option, Some, None}
+use Rattle.std.specs.Prelude.{ℕ, ◌+◌, ◌*◌, ◌==◌, if◌then◌else◌, Bool, false, ◌||◌, max, List, [], ◌∷◌, length, Option, Some, None}
 use Rattle.std.specs.List.{sum_by}
 use Rattle.array_desc.specs.Maps.{groups}
 use Rattle.run_data.specs.declared.command.Command.{Command}
 use Rattle.run_data.specs.declared.command.Command.TheVariants as c
 use Rattle.run_data.specs.Script.{Numbered, maker, name_made}
-use Rattle.script_rules.specs.Rules.{maker_command, layout_of, layout_on, ranks_of}
+use Rattle.run_data.specs.Flips.{pending}
+use Rattle.script_rules.specs.Rules.{maker_command, distribution_of, distribution_on, ranks_of}
 use Rattle.script_bounds.specs.declared.steps.Steps.{Steps}
-use Rattle.script_bounds.specs.Steps.{one_phase, pgemm_steps, ptrsm_steps, pgetrf_steps, pgetrs_steps, pgemr2d_steps, matrix_recovery, list_recovery}
+use Rattle.script_bounds.specs.Steps.{one_phase, pgemm_steps, ptrsm_steps, pgetrf_steps, pgetrs_steps, pgemr2d_steps, ptran_steps, pgetri_steps, pverify_steps, matrix_recovery, list_recovery}
 
 -- a `matrix` line on a grid of p process rows, q data columns and f code columns: each group is fed and its code columns are made, and a commit
 abbrev pub matrix_records : ℕ → ℕ → ℕ → ℕ → ℕ
@@ -34,11 +35,14 @@ records_of_print cs line command = 0
 -- the records of a command on a line
 abbrev pub steps_in : List Numbered → ℕ → Command → Steps
 steps_in cs line (c.Matrix name grid m n mb nb rsrc csrc file) = one_phase (records_of_matrix (maker_command cs line grid) n nb)
-steps_in cs line (c.Pgemm transa transb m n k alpha a ia ja b ib jb beta x ic jc) = pgemm_steps k (layout_of cs line a) (layout_of cs line x)
-steps_in cs line (c.Ptrsm side uplo transa diag m n alpha a ia ja b ib jb) = ptrsm_steps m (layout_of cs line a) (layout_of cs line b)
-steps_in cs line (c.Pgetrf m n a ia ja v) = pgetrf_steps m n (layout_of cs line a)
-steps_in cs line (c.Pgetrs trans n nrhs a ia ja v b ib jb) = pgetrs_steps n (layout_of cs line a) (layout_of cs line b)
-steps_in cs line (c.Pgemr2d m n a ia ja b ib jb ctxt) = pgemr2d_steps m n (layout_of cs line a) (layout_of cs line b)
+steps_in cs line (c.Pgemm transa transb m n k alpha a ia ja b ib jb beta x ic jc) = pgemm_steps k (distribution_of cs line a) (distribution_of cs line x)
+steps_in cs line (c.Ptrsm side uplo transa diag m n alpha a ia ja b ib jb) = ptrsm_steps side transa m n (distribution_of cs line a) (distribution_of cs line b)
+steps_in cs line (c.Pgetrf m n a ia ja v) = pgetrf_steps m n (distribution_of cs line a)
+steps_in cs line (c.Pgetrs trans n nrhs a ia ja v b ib jb) = pgetrs_steps trans n (distribution_of cs line a) (distribution_of cs line b)
+steps_in cs line (c.Pgemr2d m n a ia ja b ib jb ctxt) = pgemr2d_steps m n (distribution_of cs line a) (distribution_of cs line b)
+steps_in cs line (c.Ptran m n alpha a ia ja beta x ic jc) = ptran_steps m n (distribution_of cs line a) (distribution_of cs line x)
+steps_in cs line (c.Pgetri n a ia ja v b ib jb) = pgetri_steps n (distribution_of cs line a) (distribution_of cs line b)
+steps_in cs line (c.Pverify name) = pverify_steps (distribution_of cs line name) (length (pending cs line name))
 steps_in cs line (c.Print name) = one_phase (records_of_print cs (maker cs line name) (maker_command cs line name))
 steps_in cs line (c.Pivots name) = one_phase 2
 steps_in cs line (c.Discard name) = one_phase 1
@@ -48,6 +52,8 @@ steps_in cs line (c.Links n) = one_phase 0
 steps_in cs line (c.Order numbers) = one_phase 0
 steps_in cs line (c.Lose at rank) = one_phase 0
 steps_in cs line (c.Spares n) = one_phase 0
+steps_in cs line (c.Field n) = one_phase 0
+steps_in cs line (c.Flip name i j x) = one_phase 0
 
 abbrev pub records_in : List Numbered → ℕ → Command → ℕ
 records_in cs line command = (steps_in cs line command).count
@@ -69,8 +75,8 @@ phase_steps cs = greatest (λ n. (steps_in cs n.line n.command).phase) cs
 
 -- the records that bring back what a command makes
 abbrev pub recovery_made : List Numbered → ℕ → Command → ℕ
-recovery_made cs line (c.Matrix name grid m n mb nb rsrc csrc file) = matrix_recovery (layout_on (maker cs line grid) (maker_command cs line grid) m n mb nb rsrc csrc)
-recovery_made cs line (c.Pgetrf m n a ia ja v) = list_recovery (layout_of cs line a)
+recovery_made cs line (c.Matrix name grid m n mb nb rsrc csrc file) = matrix_recovery (distribution_on (maker cs line grid) (maker_command cs line grid) m n mb nb rsrc csrc)
+recovery_made cs line (c.Pgetrf m n a ia ja v) = list_recovery (distribution_of cs line a)
 recovery_made cs line _ = 0
 
 -- the records that bring back what a command drops

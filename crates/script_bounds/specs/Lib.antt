@@ -1,3 +1,4 @@
 pub mod Steps
 pub mod Bounds
 pub mod Accepted
+pub mod Flipping

@@ -6,13 +6,15 @@ ghost use Rattle.script_bounds.specs.Accepted.{KeepsRules};
 ghost use Rattle.script_bounds.specs.Bounds.{matrix_records, print_records, records_of_matrix, print_on, records_of_print, steps_in, plain_bound, phase_steps, losses, bound};
 ghost use Rattle.script_rules.specs.Rules.{maker_command};
 
+use crate::flips::pending_flips;
 use crate::recovery::recovery_steps;
 use crate::steps::{
-    Steps, one_phase, pgemm_steps, pgemr2d_steps, pgetrf_steps, pgetrs_steps, ptrsm_steps,
+    Steps, one_phase, pgemm_steps, pgemr2d_steps, pgetrf_steps, pgetri_steps, pgetrs_steps,
+    ptran_steps, ptrsm_steps, pverify_steps,
 };
 use array_desc::groups;
 use run_data::{Command, Script};
-use script_rules::{layout_of, maker_command};
+use script_rules::{distribution_of, maker_command};
 
 // The number of records of all lines when no rank is lost.
 fn plain_bound(script: &Script) -> u64
@@ -88,25 +90,56 @@ fn steps_in(script: &Script, place: usize, command: &Command) -> Steps
         }
         Command::Pgemm { k, a, c, .. } => pgemm_steps(
             *k,
-            layout_of(script, line, a.bytes()),
-            layout_of(script, line, c.bytes()),
+            distribution_of(script, line, a.bytes()),
+            distribution_of(script, line, c.bytes()),
         ),
-        Command::Ptrsm { m, a, b, .. } => ptrsm_steps(
+        Command::Ptrsm {
+            side,
+            transa,
+            m,
+            n,
+            a,
+            b,
+            ..
+        } => ptrsm_steps(
+            side.bytes(),
+            transa.bytes(),
             *m,
-            layout_of(script, line, a.bytes()),
-            layout_of(script, line, b.bytes()),
-        ),
-        Command::Pgetrf { m, n, a, .. } => pgetrf_steps(*m, *n, layout_of(script, line, a.bytes())),
-        Command::Pgetrs { n, a, b, .. } => pgetrs_steps(
             *n,
-            layout_of(script, line, a.bytes()),
-            layout_of(script, line, b.bytes()),
+            distribution_of(script, line, a.bytes()),
+            distribution_of(script, line, b.bytes()),
+        ),
+        Command::Pgetrf { m, n, a, .. } => pgetrf_steps(
+            *m,
+            *n,
+            distribution_of(script, line, a.bytes()),
+        ),
+        Command::Pgetrs { trans, n, a, b, .. } => pgetrs_steps(
+            trans.bytes(),
+            *n,
+            distribution_of(script, line, a.bytes()),
+            distribution_of(script, line, b.bytes()),
         ),
         Command::Pgemr2d { m, n, a, b, .. } => pgemr2d_steps(
             *m,
             *n,
-            layout_of(script, line, a.bytes()),
-            layout_of(script, line, b.bytes()),
+            distribution_of(script, line, a.bytes()),
+            distribution_of(script, line, b.bytes()),
+        ),
+        Command::Ptran { m, n, a, c, .. } => ptran_steps(
+            *m,
+            *n,
+            distribution_of(script, line, a.bytes()),
+            distribution_of(script, line, c.bytes()),
+        ),
+        Command::Pgetri { n, a, b, .. } => pgetri_steps(
+            *n,
+            distribution_of(script, line, a.bytes()),
+            distribution_of(script, line, b.bytes()),
+        ),
+        Command::Pverify { name } => pverify_steps(
+            distribution_of(script, line, name.bytes()),
+            pending_flips(script, line, name.bytes()),
         ),
         Command::Print { name } => one_phase(records_of_print(script, line, name.bytes())),
         Command::Pivots { .. } => one_phase(2),

@@ -2,6 +2,7 @@
 #![tactic(auto)]
 
 mod bounds;
+mod flips;
 mod recovery;
 mod steps;
 

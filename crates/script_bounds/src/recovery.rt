@@ -7,7 +7,7 @@ ghost use Rattle.script_bounds.specs.Bounds.{recovery_made, recovery_dropped, gr
 
 use crate::steps::{list_recovery, matrix_recovery};
 use run_data::{Command, Script};
-use script_rules::{layout_of, layout_on};
+use script_rules::{distribution_of, distribution_on};
 
 // The records that bring back what the command at a place of a script makes.
 fn recovery_made(script: &Script, place: usize, command: &Command) -> u64
@@ -28,8 +28,18 @@ fn recovery_made(script: &Script, place: usize, command: &Command) -> u64
             rsrc,
             csrc,
             ..
-        } => matrix_recovery(layout_on(script, line, grid.bytes(), *m, *n, *mb, *nb, *rsrc, *csrc)),
-        Command::Pgetrf { a, .. } => list_recovery(layout_of(script, line, a.bytes())),
+        } => matrix_recovery(distribution_on(
+            script,
+            line,
+            grid.bytes(),
+            *m,
+            *n,
+            *mb,
+            *nb,
+            *rsrc,
+            *csrc,
+        )),
+        Command::Pgetrf { a, .. } => list_recovery(distribution_of(script, line, a.bytes())),
         _ => 0,
     }
 }

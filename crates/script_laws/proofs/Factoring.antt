@@ -4,7 +4,7 @@ use Rattle.std.specs.Prelude.{if◌then◌else◌, unwrap_or, nat_lt}
 use Rattle.std.proofs.lemmas.Bool.{false≢true, true≢false, lt-ltb, ltb-true, eqb-true, eq-eqb, ne_eqb, and_from, or_left, or_from, or_cases, not_from_false, false_from_ne_true}
 use Rattle.run_data.specs.declared.command.Command.{Command}
 use Rattle.run_data.specs.declared.command.Command.TheVariants as c
-use Rattle.run_data.specs.Script.{Numbered, commands_from, commands_of, command_at, makes_records, maker, is_grid_line, grids_before, number_of, meant, name_in}
+use Rattle.run_data.specs.Script.{Numbered, commands_from, commands_of, command_at, makes_records, maker, is_grid_line, grids_before, operand_number, meant, name_in}
 use Rattle.run_data.proofs.Lines.{command_at-before}
 use Rattle.blacs_grid.specs.declared.Grid.{Grid}
 use Rattle.rank_machine.specs.declared.mark.Mark.{Mark}
@@ -62,7 +62,7 @@ meant_line : (cs : List Numbered) (line word : ℕ) (command : Command) (name : 
 meant_line cs line word command name e named there =
     ap (λ (o : Option Command). unwrap_or (meant cs line (name_in o word)) 0) e
     ∙ ap (λ (o : Option (List ℕ)). unwrap_or (meant cs line o) 0) named
-    ∙ ap (λ (o : Option ℕ). unwrap_or (number_of cs o) 0) there.maker_is
+    ∙ ap (λ (o : Option ℕ). unwrap_or (operand_number cs o) 0) there.maker_is
     ∙ ap (λ (b : Bool). if b then grids_before cs there.at else there.at) there.no_grid
 
 -- what a drop means
@@ -184,5 +184,4 @@ no_list script files =
 
 pub accepted-sensible : (script : List (Option Command)) (files : Matrices) (p : ℕ) → KeepsRules script → IsSound p (setting_of script files) → IsSensible (setting_of script files)
 accepted-sensible script files p h sound =
-    let is : 65537 ≡ p = sound.modulus in
-    sensible-from_sound p (setting_of script files) sound (omega (arith, is)) (no_list script files) (λ mark going some. factored-live script files mark h going some)
+    sensible-from_sound p (setting_of script files) sound (omega (arith, sound.large)) (no_list script files) (λ mark going some. factored-live script files mark h going some)

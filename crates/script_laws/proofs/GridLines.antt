@@ -8,7 +8,8 @@ use Rattle.run_data.specs.declared.command.Command.TheVariants as c
 use Rattle.run_data.specs.Script.{commands_from, commands_of, command_at, is_grid, grids_before}
 use Rattle.run_data.proofs.Lines.{command_at-before}
 use Rattle.blacs_grid.specs.declared.Grid.{Grid}
-use Rattle.rank_machine.specs.Setting.{Layout, Job, no_grid, no_layout, is_matrix, layout}
+use Rattle.rank_machine.specs.declared.layout.Layout.{Layout}
+use Rattle.rank_machine.specs.Setting.{Job, no_grid, no_layout, is_matrix, layout}
 use Rattle.rank_machine.specs.Scripts.{Matrices, grid_made, ranks_made, grids_from, line_meant, layout_named, setting_of}
 use Rattle.script_lines.specs.Sound.{IsSound}
 use Rattle.script_lines.proofs.JobAt.{job_for, job-in_script}

@@ -1,3 +1,4 @@
 pub mod Makers
 pub mod Factoring
 pub mod GridLines
+pub mod FieldLines

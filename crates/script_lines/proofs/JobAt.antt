@@ -84,6 +84,11 @@ made_by ns grids line (Some (c.Links n)) h = absurd (true≢false (sym h))
 made_by ns grids line (Some (c.Order numbers)) h = absurd (true≢false (sym h))
 made_by ns grids line (Some (c.Lose at rank)) h = absurd (true≢false (sym h))
 made_by ns grids line (Some (c.Spares n)) h = absurd (true≢false (sym h))
+made_by ns grids line (Some (c.Field n)) h = absurd (true≢false (sym h))
+made_by ns grids line (Some (c.Ptran m n alpha a ia ja beta x ic jc)) h = absurd (true≢false (sym h))
+made_by ns grids line (Some (c.Pgetri n a ia ja v b ib jb)) h = absurd (true≢false (sym h))
+made_by ns grids line (Some (c.Flip name i j x)) h = absurd (true≢false (sym h))
+made_by ns grids line (Some (c.Pverify name)) h = absurd (true≢false (sym h))
 
 pub matrix_line-is : (script : List (Option Command)) (line : ℕ) → makes_matrix script line ≡ true → is_matrix_command (command_at (commands_of script) line) ≡ true
 matrix_line-is script line h = made_by (commands_of script) (grids_from 0 (commands_of script)) line (command_at (commands_of script) line) (sym (ap (λ (j : Job). is_some j.makes) (job-in_script script line)) ∙ h)
@@ -123,6 +128,11 @@ not_matrix (c.Links n) never h = true≢false (sym h)
 not_matrix (c.Order numbers) never h = true≢false (sym h)
 not_matrix (c.Lose at rank) never h = true≢false (sym h)
 not_matrix (c.Spares n) never h = true≢false (sym h)
+not_matrix (c.Field n) never h = true≢false (sym h)
+not_matrix (c.Ptran m n alpha a ia ja beta x ic jc) never h = true≢false (sym h)
+not_matrix (c.Pgetri n a ia ja v b ib jb) never h = true≢false (sym h)
+not_matrix (c.Flip name i j x) never h = true≢false (sym h)
+not_matrix (c.Pverify name) never h = true≢false (sym h)
 
 -- line 0 makes no matrix
 pub made-positive : (script : List (Option Command)) (line : ℕ) → makes_matrix script line ≡ true → 0 < line

@@ -1,6 +1,6 @@
 -- Lines of a table that are looked up by their numbers, and what a table says of drops.
-use Rattle.std.proofs.Common.{◌≡◌, ◌≢◌, ◌&&◌, ◌||◌, ◌<◌, ◌≤◌, ℕ, zero, suc, Bool, true, false, not, Option, Some, None, is_some, List, [], ◌∷◌, length, map, get_or, refl, sym, ap, subst, ◌∙◌, arith, ⊎_elim, All}
-use Rattle.std.specs.Prelude.{◌==◌, if◌then◌else◌, option_map, nat_lt, nat_le, IfSome}
+use Rattle.std.proofs.Common.{◌≡◌, ◌≢◌, ◌&&◌, ◌||◌, ◌<◌, ◌≤◌, ℕ, zero, suc, Bool, true, false, not, Some, None, is_some, List, [], ◌∷◌, length, map, get_or, refl, sym, ap, subst, ◌∙◌, arith, ⊎_elim, All}
+use Rattle.std.specs.Prelude.{◌==◌, if◌then◌else◌, nat_lt, nat_le, IfSome}
 use Rattle.std.specs.List.Sorted.{IsPartitionedBy, IsPartitionPoint}
 use Rattle.std.proofs.lemmas.Bool.{cases_Bool, cases_lt, true≢false}
 use Rattle.std.proofs.lemmas.Bool.Decides.{nat_tests}
@@ -8,9 +8,8 @@ use Rattle.std.proofs.lemmas.List.Elements.{All-nil, All-cons, All-head, All-tai
 use Rattle.rank_machine.specs.declared.mark.Mark.{Mark}
 use Rattle.rank_machine.specs.Setting.{Job, job_in, some_job, is_matrix, factored}
 use Rattle.rank_machine.specs.Effect.{has_ended, is_dropped, is_live_matrix, is_live_list}
-use Rattle.script_lines.specs.declared.layouts.Layout.{Layout}
 use Rattle.script_lines.specs.declared.lines.Line.{Line}
-use Rattle.script_lines.specs.Layouts.{seen, IsLayout}
+use Rattle.script_lines.specs.Layouts.{IsLayout}
 use Rattle.script_lines.specs.Lines.{job_seen, setting_on, no_line, line_in, first_drop, is_dropped_by, AreRising, AreSound}
 
 -- ---- the first line of a table, or one after it
@@ -180,10 +179,6 @@ guarded false a' b d d' e h = (λ i. (e i && b) && not d) ∙ closed a' b d d' (
     closed true b d d' e = absurd (true≢false e)
     closed false b d d' e = refl
 
-seen_some : (o : Option Layout) → is_some o ≡ is_some (option_map seen o)
-seen_some None = refl
-seen_some (Some d) = refl
-
 -- ---- what is live
 -- a matrix that was made is live unless it was dropped
 pub matrix_unless_dropped : (table : List Line) (mark : Mark) (line : ℕ) (x : Line) → AreSound table → x ≡ line_in table line → is_some x.makes ≡ true → has_ended mark line ≡ true
@@ -194,7 +189,7 @@ matrix_unless_dropped table mark line x sound at makes ended =
     ap (λ (z : Line). not (is_dropped_by mark z.dropped)) at
     ∙ sym (λ i. (made i && ended i) && not (is_dropped_by mark y.dropped))
     ∙ guarded (is_some y.makes) (is_matrix (setting_on 0 table) line) (has_ended mark line) (is_dropped_by mark y.dropped) (is_dropped (setting_on 0 table) mark line)
-    (seen_some y.makes ∙ ap (λ (j : Job). is_some j.makes) (line_in-job table line))
+    (ap (λ (j : Job). is_some j.makes) (line_in-job table line))
     (says_drop table mark line (λ z. is_some z.makes) sound refl)
 
 -- so is a list of pivots that was begun
@@ -210,9 +205,9 @@ list_unless_dropped table mark line x sound at factors begun =
     (says_drop table mark line (λ z. nat_lt 0 z.factors) sound refl)
 
 -- a line that drops nothing of its own and is dropped by none is a sound table
-pub one_sound : (x : Line) → IfSome x.makes (λ d. IsLayout (seen d)) → x.dropped ≡ None → (x.drops == x.line) ≡ false → AreSound (x ∷ [])
+pub one_sound : (x : Line) → IfSome x.makes IsLayout → x.dropped ≡ None → (x.drops == x.line) ≡ false → AreSound (x ∷ [])
 one_sound x laid_out none other = record {
-  laid_out = All-cons (λ (y : Line). IfSome y.makes (λ d. IsLayout (seen d))) x [] laid_out (All-nil (λ (y : Line). IfSome y.makes (λ d. IsLayout (seen d))));
+  laid_out = All-cons (λ (y : Line). IfSome y.makes IsLayout) x [] laid_out (All-nil (λ (y : Line). IfSome y.makes IsLayout));
   rising = (All-nil (λ (y : Line). x.line < y.line), tt);
   drops = All-cons (λ (y : Line). y.dropped ≡ first_drop (x ∷ []) y.line) x [] (none ∙ sym (ap (λ b. if b then Some x.line else None) other)) (All-nil (λ (y : Line). y.dropped ≡ first_drop (x ∷ []) y.line));
 }

@@ -1,17 +1,17 @@
 -- The table of a script's lines says what the script asks of a rank.
 use Rattle.std.proofs.Common.{◌≡◌, ◌&&◌, ◌||◌, ℕ, Bool, true, false, not, Option, Some, None, is_some, List, [], ◌∷◌, map, refl, ap, ◌∙◌, arith}
-use Rattle.std.specs.Prelude.{◌==◌, if◌then◌else◌, IfSome, option_map, unwrap_or, nat_lt, nat_le}
+use Rattle.std.specs.Prelude.{◌==◌, if◌then◌else◌, IfSome, unwrap_or, nat_lt, nat_le}
 use Rattle.std.proofs.lemmas.List.Elements.{All-head, All-tail}
 use Rattle.blacs_grid.specs.Places.{is_member, is_data_rank, is_code_rank}
 use Rattle.rank_machine.specs.declared.mark.Mark.{Mark}
 use Rattle.rank_machine.specs.declared.slot.Slot.{Slot}
 use Rattle.rank_machine.specs.declared.slot.SlotKind.{SlotKind}
 use Rattle.rank_machine.specs.declared.slot.SlotKind.TheVariants.{Data, Code, Low, Open, Pivots, Work}
-use Rattle.rank_machine.specs.Setting.{Setting, Job, Layout, job_in, some_job, no_layout, layout, is_matrix, factored, group_count}
+use Rattle.rank_machine.specs.declared.layout.Layout.{Layout}
+use Rattle.rank_machine.specs.Setting.{Setting, Job, job_in, some_job, no_layout, layout, is_matrix, factored, group_count}
 use Rattle.rank_machine.specs.Effect.{has_ended, is_dropped, is_live_matrix, is_live_list, factoring, is_live_kind, is_live}
-use Rattle.script_lines.specs.declared.layouts.Layout as script
 use Rattle.script_lines.specs.declared.lines.Line.{Line}
-use Rattle.script_lines.specs.Layouts.{IsLayout, seen}
+use Rattle.script_lines.specs.Layouts.{IsLayout}
 use Rattle.script_lines.specs.Lines.{job_seen, of_slots, setting_on, IsTableOf, AreLaidOut, AreSound}
 
 -- ---- what is read of a list of jobs is what they make, factor and drop
@@ -67,10 +67,6 @@ module _ (s : Setting) (table : List Line) (p : ℕ) (is : IsTableOf s.jobs tabl
   is_live_on mark rank slot = is_live_kind_on mark rank slot slot.kind
 
 -- ---- the layouts of a sound table
-seen_sound : (o : Option script.Layout) → IfSome o (λ d. IsLayout (seen d)) → IfSome (option_map seen o) IsLayout
-seen_sound None h = tt
-seen_sound (Some d) h = h
-
 one_of_two : (here : Bool) (j after : Job) → IfSome j.makes IsLayout → IfSome after.makes IsLayout → IfSome (if here then j else after).makes IsLayout
 one_of_two true j after h k = h
 one_of_two false j after h k = k
@@ -78,8 +74,8 @@ one_of_two false j after h k = k
 makes_laid_out : (table : List Line) (line : ℕ) → AreLaidOut table → IfSome (job_in (map job_seen table) line).makes IsLayout
 makes_laid_out [] line h = tt
 makes_laid_out (x ∷ xs) line h =
-    let P : Line → Type 0 = λ y. IfSome y.makes (λ d. IsLayout (seen d)) in
-    one_of_two (x.line == line) (job_seen x) (job_in (map job_seen xs) line) (seen_sound x.makes (All-head P x xs h)) (makes_laid_out xs line (All-tail P x xs h))
+    let P : Line → Type 0 = λ y. IfSome y.makes IsLayout in
+    one_of_two (x.line == line) (job_seen x) (job_in (map job_seen xs) line) (All-head P x xs h) (makes_laid_out xs line (All-tail P x xs h))
 
 pub makes_sound : (table : List Line) (line : ℕ) → AreSound table → IfSome (job_in (map job_seen table) line).makes IsLayout
 makes_sound table line sound = makes_laid_out table line sound.laid_out

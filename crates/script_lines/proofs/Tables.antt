@@ -9,7 +9,7 @@ use Rattle.run_data.specs.Script.{Numbered, commands_of, makes_records}
 use Rattle.rank_machine.specs.Setting.{Job}
 use Rattle.rank_machine.specs.Scripts.{grids_from, jobs_from, job_of}
 use Rattle.script_lines.specs.declared.lines.Line.{Line}
-use Rattle.script_lines.specs.Layouts.{IsLayout, seen, jobs_of}
+use Rattle.script_lines.specs.Layouts.{IsLayout, jobs_of}
 use Rattle.script_lines.specs.Lines.{job_seen, of_slots, first_drop, with_drop, IsTableOf, AreLaidOut, AreRising, AreSound}
 
 -- what some commands of a script ask of a table
@@ -36,8 +36,8 @@ asked-pass script n left is =
     ap (λ b. map of_slots (if b then job_of (commands_of script) (grids_from 0 (commands_of script)) n.line n.command ∷ jobs_from (commands_of script) (grids_from 0 (commands_of script)) left
     else jobs_from (commands_of script) (grids_from 0 (commands_of script)) left)) is
 
-pub laid_out-push : (table : List Line) (x : Line) → AreLaidOut table → IfSome x.makes (λ d. IsLayout (seen d)) → AreLaidOut (table ++ x ∷ [])
-laid_out-push table x sound h = All-push (λ (y : Line). IfSome y.makes (λ d. IsLayout (seen d))) table x sound h
+pub laid_out-push : (table : List Line) (x : Line) → AreLaidOut table → IfSome x.makes IsLayout → AreLaidOut (table ++ x ∷ [])
+laid_out-push table x sound h = All-push (λ (y : Line). IfSome y.makes IsLayout) table x sound h
 
 -- the lines so far come up to a number, and the next has the number after it
 pub before-more : (table : List Line) (i : ℕ) → All (λ (x : Line). x.line ≤ i) table → All (λ (x : Line). x.line ≤ i + 1) table
@@ -76,7 +76,7 @@ table-with_drop script t h = jobs-with_drop t t ∙ h
 
 pub sound-with_drop : (t : List Line) → AreLaidOut t → AreRising t → AreSound (map (with_drop t) t)
 sound-with_drop t laid_out rising = record {
-  laid_out = All-map (λ (x : Line). IfSome x.makes (λ d. IsLayout (seen d))) (with_drop t) t laid_out;
+  laid_out = All-map (λ (x : Line). IfSome x.makes IsLayout) (with_drop t) t laid_out;
   rising = rising-with_drop t t rising;
   drops = All-map (λ (x : Line). x.dropped ≡ first_drop (map (with_drop t) t) x.line) (with_drop t) t (λ i d lt. sym (drops-with_drop t t (get_or t i d).line));
 }

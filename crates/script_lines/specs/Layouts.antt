@@ -5,16 +5,12 @@ use Rattle.run_data.specs.Script.{commands_of}
 use Rattle.array_desc.specs.Descriptors.{IsDesc}
 use Rattle.blacs_grid.specs.declared.Grid.{Grid}
 use Rattle.blacs_grid.specs.Limits.{IsGrid}
+use Rattle.rank_machine.specs.declared.layout.Layout.{Layout}
 use Rattle.rank_machine.specs.Setting as machine
 use Rattle.rank_machine.specs.Scripts.{grids_from, jobs_from}
-use Rattle.script_lines.specs.declared.layouts.Layout.{Layout}
-
--- a layout as the machine's definitions have it
-abbrev pub seen : Layout → machine.Layout
-seen d = record { grid = d.grid; desc = d.desc }
 
 -- a grid within the limits and a descriptor on it
-pub record IsLayout (d : machine.Layout) : Type 0 where
+pub record IsLayout (d : Layout) : Type 0 where
   pub grid : IsGrid d.grid
   pub desc : IsDesc d.grid.p d.grid.q d.desc
 
@@ -31,5 +27,5 @@ jobs_of script = let ns = commands_of script in jobs_from ns (grids_from 0 ns) n
 abbrev pub makes_matrix : List (Option Command) → ℕ → Bool
 makes_matrix script line = is_some (machine.job_in (jobs_of script) line).makes
 
-abbrev pub layout_in : List (Option Command) → ℕ → machine.Layout
+abbrev pub layout_in : List (Option Command) → ℕ → Layout
 layout_in script line = unwrap_or (machine.job_in (jobs_of script) line).makes machine.no_layout

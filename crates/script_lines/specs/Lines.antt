@@ -1,16 +1,16 @@
 -- What the lines of a script ask of the ranks, as a table.
-use Rattle.std.specs.Prelude.{◌≡◌, ◌<◌, ◌==◌, ℕ, Bool, false, if◌then◌else◌, Option, Some, None, option_map, IfSome, List, [], ◌∷◌, map, All}
+use Rattle.std.specs.Prelude.{◌≡◌, ◌<◌, ◌==◌, ℕ, Bool, false, if◌then◌else◌, Option, Some, None, IfSome, List, [], ◌∷◌, map, All}
 use Rattle.field_core.specs.Residue.{inverse}
 use Rattle.run_data.specs.Matrix.{zero_matrix}
 use Rattle.rank_machine.specs.declared.mark.Mark.{Mark}
 use Rattle.rank_machine.specs.Setting.{Job, Setting, no_job}
 use Rattle.rank_machine.specs.Effect.{has_ended}
 use Rattle.script_lines.specs.declared.lines.Line.{Line}
-use Rattle.script_lines.specs.Layouts.{seen, IsLayout}
+use Rattle.script_lines.specs.Layouts.{IsLayout}
 
 -- a line of a table, as a job that asks nothing else
 abbrev pub job_seen : Line → Job
-job_seen x = record (no_job x.line) { makes = option_map seen x.makes; factors = x.factors; drops = x.drops }
+job_seen x = record (no_job x.line) { makes = x.makes; factors = x.factors; drops = x.drops }
 
 -- a setting of these lines, for the words modulo p: all that a rank reads of a script
 abbrev pub setting_on : ℕ → List Line → Setting
@@ -58,7 +58,7 @@ is_dropped_by mark (Some line) = has_ended mark line
 
 -- each matrix of a table lies on a grid within the limits, by a descriptor in its ranges
 abbrev pub AreLaidOut : List Line → Type 0
-AreLaidOut table = All (λ (x : Line). IfSome x.makes (λ d. IsLayout (seen d))) table
+AreLaidOut table = All (λ (x : Line). IfSome x.makes IsLayout) table
 
 -- the lines of a table come by rising number
 abbrev pub AreRising : List Line → Type 0

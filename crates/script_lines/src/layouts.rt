@@ -4,19 +4,13 @@ ghost use Rattle.run_data.specs.Script.{commands_of};
 ghost use Rattle.array_desc.specs.Descriptors.{desc_of};
 ghost use Rattle.rank_machine.specs.Scripts.{grids_from, layout_on};
 ghost use Rattle.rank_machine.specs.Setting.{no_grid};
-ghost use Rattle.script_lines.specs.Layouts.{AreGrids, IsLayout, seen, makes_matrix, layout_in};
+ghost use Rattle.script_lines.specs.Layouts.{AreGrids, IsLayout, makes_matrix, layout_in};
 
 use array_desc::Desc;
 use blacs_grid::Grid;
+use rank_machine::Layout;
 use run_data::{Command, Script};
 use std::alloc::{AllocError, Global};
-
-/// A grid and a descriptor on it.
-#[derive(Clone, Copy)]
-pub struct Layout {
-    pub grid: Grid,
-    pub desc: Desc,
-}
 
 /// The grids of a script, in its order; the ranks of each follow those of the grids before.
 pub fn grids_of(alloc: Global, script: &Script) -> Result<Vec<Grid>, AllocError>
@@ -76,11 +70,11 @@ fn descriptor(
 }
 
 /// Where the matrix of a `matrix` line lies.
-pub fn layout_of(grids: &[Grid], script: &Script, line: u32) -> Layout
+pub fn layout_in(grids: &[Grid], script: &Script, line: u32) -> Layout
     requires grids { grids.now ≡ grids_from 0 (commands_of script.now) }
     requires makes { makes_matrix script.now line ≡ true }
     requires laid_out { IsLayout (layout_in script.now line) }
-    ensures { seen result ≡ layout_in script.now line }
+    ensures { result ≡ layout_in script.now line }
 {
     let Some(command) = script.command(line) else {
         unreachable!();

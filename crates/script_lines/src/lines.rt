@@ -2,11 +2,12 @@
 ghost use Rattle.std.specs.Prelude.{◌≡◌, ℕ, true, map, Some, IfSome, IfOk};
 ghost use Rattle.run_data.specs.Script.{commands_of, command_at};
 ghost use Rattle.rank_machine.specs.Scripts.{grids_from, job_of};
-ghost use Rattle.script_lines.specs.Layouts.{AreGrids, IsLayout, seen, jobs_of, makes_matrix, layout_in};
+ghost use Rattle.script_lines.specs.Layouts.{AreGrids, IsLayout, jobs_of, makes_matrix, layout_in};
 ghost use Rattle.script_lines.specs.Lines.{job_seen, of_slots, first_drop, with_drop, IsTableOf, AreLaidOut, AreRising, AreSound};
 
-use crate::layouts::{Layout, grids_of, layout_of};
+use crate::layouts::{grids_of, layout_in};
 use blacs_grid::Grid;
+use rank_machine::Layout;
 use run_data::{Command, Script};
 use std::alloc::{AllocError, Global};
 
@@ -28,7 +29,7 @@ fn line_of(grids: &[Grid], script: &Script, line: u32, command: &Command) -> Lin
     requires laid_out { makes_matrix script.now line ≡ true → IsLayout (layout_in script.now line) }
     ensures line { result.line ≡ line }
     ensures job { job_seen result ≡ of_slots (job_of (commands_of script.now) (grids_from 0 (commands_of script.now)) line command.now) }
-    ensures sound { IfSome result.makes (λ d. IsLayout (seen d)) }
+    ensures sound { IfSome result.makes IsLayout }
 {
     let mut asked = Line {
         line,
@@ -38,7 +39,7 @@ fn line_of(grids: &[Grid], script: &Script, line: u32, command: &Command) -> Lin
         dropped: None,
     };
     match command {
-        Command::Matrix { .. } => asked.makes = Some(layout_of(grids, script, line)),
+        Command::Matrix { .. } => asked.makes = Some(layout_in(grids, script, line)),
         Command::Pgetrf { .. } => asked.factors = script.operand(line, 3).unwrap_or(0),
         Command::Discard { .. } => asked.drops = script.operand(line, 1).unwrap_or(0),
         _ => {}

@@ -4,15 +4,14 @@ ghost use Rattle.blacs_grid.specs.Limits.{IsGrid};
 ghost use Rattle.blacs_grid.specs.Places.{is_member, is_data_rank, is_code_rank};
 ghost use Rattle.rank_machine.specs.Setting as machine;
 ghost use Rattle.rank_machine.specs.Effect as effect;
-ghost use Rattle.script_lines.specs.Layouts.{IsLayout, seen};
+ghost use Rattle.script_lines.specs.Layouts.{IsLayout};
 ghost use Rattle.script_lines.specs.Lines.{job_seen, setting_on, line_in, is_dropped_by, AreSound};
 ghost use Rattle.script_lines.specs.Live.{is_live_line, first_live, end_of_live, AreLive};
 
-use crate::layouts::Layout;
 use crate::lines::Line;
 use array_desc::{Desc, groups};
 use blacs_grid::Grid;
-use rank_machine::{Mark, Slot, SlotKind};
+use rank_machine::{Layout, Mark, Slot, SlotKind};
 
 /// What a line asks; a line that isn't in the table asks nothing. It is found by halving.
 pub fn find(table: &[Line], line: u32) -> Line
@@ -36,8 +35,8 @@ pub fn find(table: &[Line], line: u32) -> Line
 /// Where the matrix of a line lies; where the line makes none, as a matrix of one word on one rank.
 pub fn layout_at(table: &[Line], line: u32) -> Layout
     requires sound { AreSound table.now }
-    ensures value { seen result ≡ machine.layout (setting_on 0 table.now) line }
-    ensures sound { IsLayout (seen result) }
+    ensures value { result ≡ machine.layout (setting_on 0 table.now) line }
+    ensures sound { IsLayout result }
 {
     match find(table, line).makes {
         Some(layout) => layout,
@@ -137,8 +136,8 @@ fn is_factored(table: &[Line], mark: Mark, line: u32) -> bool
 
 // How many groups of block columns a matrix has.
 fn group_count(layout: &Layout) -> u32
-    requires { IsLayout (seen layout.now) }
-    ensures { result ≡ machine.group_count (seen layout.now) }
+    requires { IsLayout layout.now }
+    ensures { result ≡ machine.group_count layout.now }
 {
     groups(layout.desc.n, layout.desc.nb, layout.grid.q)
 }

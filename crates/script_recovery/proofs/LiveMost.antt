@@ -6,14 +6,14 @@ use Rattle.std.proofs.lemmas.Bool.{cases_Bool, true≢false, or_cases, and_parts
 use Rattle.std.proofs.lemmas.List.Sums.{sum_by-cons}
 use Rattle.run_data.specs.declared.command.Command.{Command}
 use Rattle.run_data.specs.declared.command.Command.TheVariants as c
-use Rattle.run_data.specs.Script.{Numbered, commands_from, commands_of, command_at, makes_records, maker, is_grid_line, grids_before, number_of, meant, name_in}
+use Rattle.run_data.specs.Script.{Numbered, commands_from, commands_of, command_at, makes_records, maker, is_grid_line, grids_before, operand_number, meant, name_in}
 use Rattle.blacs_grid.specs.declared.Grid.{Grid}
 use Rattle.rank_machine.specs.declared.mark.Mark.{Mark}
 use Rattle.rank_machine.specs.Setting.{Job, job, layout, is_matrix, factored, no_grid, grid_numbered}
 use Rattle.rank_machine.specs.Scripts.{Matrices, jobs_from, job_of, grids_from, line_meant, layout_on, setting_of}
 use Rattle.rank_machine.specs.Effect.{has_ended, is_dropped, is_live_matrix, is_live_list}
 use Rattle.script_bounds.specs.Accepted.{KeepsRules}
-use Rattle.script_rules.specs.Rules.{maker_command, command_on, layout_made, layout_of, layout_on as told_on}
+use Rattle.script_rules.specs.Rules.{maker_command, command_on, distribution_made, distribution_of, distribution_on}
 use Rattle.script_bounds.specs.Steps.{matrix_recovery, list_recovery}
 use Rattle.script_bounds.specs.Bounds.{recovery_made, lives, live_recovery}
 use Rattle.script_bounds.proofs.Limits.{MatrixKept, matrix_kept}
@@ -23,7 +23,7 @@ use Rattle.run_laws.specs.Traces.{matrix_most, list_most, recovery_of}
 use Rattle.script_recovery.proofs.GridsAt.{LiesAt, LiesAt-from, commands-rise}
 use Rattle.script_recovery.proofs.StillThere.{still-lives}
 
--- ---- the layouts of the machine and of the bound
+-- ---- the layouts of the machine and the distributions of the bound
 abbrev grid_on : ℕ → ℕ → ℕ → ℕ → Grid
 grid_on p q f first = record { p = p; q = q; f = f; first = first }
 
@@ -39,7 +39,7 @@ module _ (script : List (Option Command)) (files : Matrices) (kept : KeepsRules 
     numbered : grid_numbered (setting_of script files) number ≡ grid_on p q f first
     there : number < length (setting_of script files).grids
     maker_line : ℕ
-    told : told_on (maker (commands_of script) line grid) (maker_command (commands_of script) line grid) m n mb nb rsrc csrc
+    told : distribution_on (maker (commands_of script) line grid) (maker_command (commands_of script) line grid) m n mb nb rsrc csrc
         ≡ record { grid = maker_line; p = p; q = q; f = f; m = m; n = n; mb = mb; nb = nb; rsrc = rsrc; csrc = csrc }
 
   on : (line : ℕ) (name grid : List ℕ) (m n mb nb rsrc csrc : ℕ) (file : List ℕ) → command_at (commands_of script) line ≡ Some (c.Matrix name grid m n mb nb rsrc csrc file) → IsOn line grid m n mb nb rsrc csrc
@@ -60,7 +60,7 @@ module _ (script : List (Option Command)) (files : Matrices) (kept : KeepsRules 
         numbered = there;
         there = subst (λ i. i < length grids) (sym number) at.there;
         maker_line = k.on.at;
-        told = ap (λ o. told_on o (command_on cs o) m n mb nb rsrc csrc) k.on.maker_is ∙ ap (λ o. told_on (Some k.on.at) o m n mb nb rsrc csrc) k.on.grid;
+        told = ap (λ o. distribution_on o (command_on cs o) m n mb nb rsrc csrc) k.on.maker_is ∙ ap (λ o. distribution_on (Some k.on.at) o m n mb nb rsrc csrc) k.on.grid;
       }
 
   matrix_same : (line : ℕ) (name grid : List ℕ) (m n mb nb rsrc csrc : ℕ) (file : List ℕ) → command_at (commands_of script) line ≡ Some (c.Matrix name grid m n mb nb rsrc csrc file)
@@ -74,21 +74,21 @@ module _ (script : List (Option Command)) (files : Matrices) (kept : KeepsRules 
       → list_most (layout (setting_of script files) (line_meant (commands_of script) line 3)) ≡ recovery_made (commands_of script) line (c.Pgetrf m n a ia ja v)
   list_same line m n a ia ja v e = by_maker (maker (commands_of script) line a) refl (pgetrf_operands script line m n a ia ja v kept e).first.some_rows
     where
-      by_command : (at : ℕ) (o : Option Command) → maker (commands_of script) line a ≡ Some at → command_at (commands_of script) at ≡ o → 1 ≤ (layout_made (commands_of script) (Some at) o).m
-          → list_most (layout (setting_of script files) (line_meant (commands_of script) line 3)) ≡ list_recovery (layout_made (commands_of script) (Some at) o)
+      by_command : (at : ℕ) (o : Option Command) → maker (commands_of script) line a ≡ Some at → command_at (commands_of script) at ≡ o → 1 ≤ (distribution_made (commands_of script) (Some at) o).m
+          → list_most (layout (setting_of script files) (line_meant (commands_of script) line 3)) ≡ list_recovery (distribution_made (commands_of script) (Some at) o)
       by_command at (Some (c.Matrix name grid m' n' mb nb rsrc csrc file)) w there some =
           let cs : List Numbered = commands_of script in
           let o : IsOn at grid m' n' mb nb rsrc csrc = on at name grid m' n' mb nb rsrc csrc file there in
           let number : line_meant cs line 3 ≡ at =
-          ap (λ (o : Option Command). unwrap_or (meant cs line (name_in o 3)) 0) e ∙ (ap (λ (o : Option ℕ). unwrap_or (number_of cs o) 0) w
+          ap (λ (o : Option Command). unwrap_or (meant cs line (name_in o 3)) 0) e ∙ (ap (λ (o : Option ℕ). unwrap_or (operand_number cs o) 0) w
           ∙ ap (λ (o : Option Command). if is_grid_line o then grids_before cs at else at) there) in
           ap (λ k. list_most (layout (setting_of script files) k)) number ∙ (ap list_most o.lies ∙ sym (ap list_recovery o.told))
       by_command at o w there some = absurd (omega (arith, some))
 
-      by_maker : (o : Option ℕ) → maker (commands_of script) line a ≡ o → 1 ≤ (layout_made (commands_of script) o (command_on (commands_of script) o)).m
-          → list_most (layout (setting_of script files) (line_meant (commands_of script) line 3)) ≡ list_recovery (layout_of (commands_of script) line a)
+      by_maker : (o : Option ℕ) → maker (commands_of script) line a ≡ o → 1 ≤ (distribution_made (commands_of script) o (command_on (commands_of script) o)).m
+          → list_most (layout (setting_of script files) (line_meant (commands_of script) line 3)) ≡ list_recovery (distribution_of (commands_of script) line a)
       by_maker None w some = absurd (omega (arith, some))
-      by_maker (Some at) w some = by_command at (command_at (commands_of script) at) w refl some ∙ ap (λ o. list_recovery (layout_made (commands_of script) o (command_on (commands_of script) o))) (sym w)
+      by_maker (Some at) w some = by_command at (command_at (commands_of script) at) w refl some ∙ ap (λ o. list_recovery (distribution_made (commands_of script) o (command_on (commands_of script) o))) (sym w)
 
   -- ---- one command
   abbrev term : Mark → Job → ℕ
@@ -163,12 +163,23 @@ module _ (script : List (Option Command)) (files : Matrices) (kept : KeepsRules 
       idle mark line (job_of (commands_of script) (grids_from 0 (commands_of script)) line (c.Pivots name)) _ refl (ap (λ (j : Job). is_some j.makes) (job_is line (c.Pivots name) e)) (ap (λ (j : Job). j.factors) (job_is line (c.Pivots name) e))
   one_term mark line (c.Discard name) e made =
       idle mark line (job_of (commands_of script) (grids_from 0 (commands_of script)) line (c.Discard name)) _ refl (ap (λ (j : Job). is_some j.makes) (job_is line (c.Discard name) e)) (ap (λ (j : Job). j.factors) (job_is line (c.Discard name) e))
+  one_term mark line (c.Ptran m n alpha a ia ja beta x ic jc) e made =
+      idle mark line (job_of (commands_of script) (grids_from 0 (commands_of script)) line (c.Ptran m n alpha a ia ja beta x ic jc)) _ refl
+      (ap (λ (j : Job). is_some j.makes) (job_is line (c.Ptran m n alpha a ia ja beta x ic jc) e)) (ap (λ (j : Job). j.factors) (job_is line (c.Ptran m n alpha a ia ja beta x ic jc) e))
+  one_term mark line (c.Pgetri n a ia ja v b ib jb) e made =
+      idle mark line (job_of (commands_of script) (grids_from 0 (commands_of script)) line (c.Pgetri n a ia ja v b ib jb)) _ refl
+      (ap (λ (j : Job). is_some j.makes) (job_is line (c.Pgetri n a ia ja v b ib jb) e)) (ap (λ (j : Job). j.factors) (job_is line (c.Pgetri n a ia ja v b ib jb) e))
+  one_term mark line (c.Pverify name) e made =
+      idle mark line (job_of (commands_of script) (grids_from 0 (commands_of script)) line (c.Pverify name)) _ refl
+      (ap (λ (j : Job). is_some j.makes) (job_is line (c.Pverify name) e)) (ap (λ (j : Job). j.factors) (job_is line (c.Pverify name) e))
   one_term mark line (c.Grid name p q f) e made = absurd (true≢false (sym made))
   one_term mark line (c.Topology kind) e made = absurd (true≢false (sym made))
   one_term mark line (c.Links n) e made = absurd (true≢false (sym made))
   one_term mark line (c.Order numbers) e made = absurd (true≢false (sym made))
   one_term mark line (c.Lose at rank) e made = absurd (true≢false (sym made))
   one_term mark line (c.Spares n) e made = absurd (true≢false (sym made))
+  one_term mark line (c.Field n) e made = absurd (true≢false (sym made))
+  one_term mark line (c.Flip name i j x) e made = absurd (true≢false (sym made))
 
   -- ---- all commands
   eqb_same : (n : ℕ) → (n == n) ≡ true

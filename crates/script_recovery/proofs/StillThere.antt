@@ -7,7 +7,7 @@ use Rattle.std.proofs.lemmas.Option.{same_Some}
 use Rattle.std.proofs.lemmas.Slice.Eq.{bytes_eq-Decides}
 use Rattle.run_data.specs.declared.command.Command.{Command}
 use Rattle.run_data.specs.declared.command.Command.TheVariants as c
-use Rattle.run_data.specs.Script.{Numbered, commands_of, command_at, makes_records, is_name, name_made, name_dropped, maker, is_grid, is_grid_line, grids_before, number_of, meant, name_in}
+use Rattle.run_data.specs.Script.{Numbered, commands_of, command_at, makes_records, is_name, name_made, name_dropped, maker, is_grid, is_grid_line, grids_before, operand_number, meant, name_in}
 use Rattle.run_data.proofs.Lines.{command_at-before}
 use Rattle.blacs_grid.specs.declared.Grid.{Grid}
 use Rattle.rank_machine.specs.declared.mark.Mark.{Mark}
@@ -66,7 +66,7 @@ module _ (script : List (Option Command)) (files : Matrices) (kept : KeepsRules 
   dropped_then d no_grid means e lt =
       let cs : List Numbered = commands_of script in
       let number : line_meant cs d 1 ≡ at =
-      ap (λ (o : Option Command). unwrap_or (meant cs d (name_in o 1)) 0) e ∙ (ap (λ (o : Option ℕ). unwrap_or (number_of cs o) 0) means ∙ ap (λ (b : Bool). if b then grids_before cs at else at) no_grid) in
+      ap (λ (o : Option Command). unwrap_or (meant cs d (name_in o 1)) 0) e ∙ (ap (λ (o : Option ℕ). unwrap_or (operand_number cs o) 0) means ∙ ap (λ (b : Bool). if b then grids_before cs at else at) no_grid) in
       job-there cs (grids_from 0 cs) cs (λ j. has_ended mark j.line && (j.drops == at)) d (c.Discard name) e refl
       (and_from (has_ended mark d) (line_meant cs d 1 == at) (or_left (nat_lt d mark.line) ((d == mark.line) && mark.ended) (lt-ltb d mark.line lt)) (eq-eqb (line_meant cs d 1) at number))
 

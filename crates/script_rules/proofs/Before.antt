@@ -5,12 +5,13 @@ use Rattle.std.proofs.lemmas.Bool.{ltb-true}
 use Rattle.std.proofs.lemmas.Bool.Decides.{nat_tests}
 use Rattle.std.proofs.lemmas.Option.{same_Some}
 use Rattle.run_data.specs.declared.command.Command.{Command}
-use Rattle.run_data.specs.declared.command.Command.TheVariants as c
 use Rattle.run_data.specs.Script.{Numbered, commands_of, commands_from, command_at, is_name, name_made, name_dropped, maker_after, maker_from, maker}
 use Rattle.std.proofs.lemmas.List.{take-append-drop}
 use Rattle.run_data.specs.declared.command.Command.TheVariants.{Matrix, Pgetrf}
+use Rattle.run_data.specs.declared.flips.Flip.{Flip}
+use Rattle.run_data.specs.Flips.{pending_after, pending_from, pending}
 use Rattle.run_data.proofs.Lines.{said, command_at-before, command_at-commands_from}
-use Rattle.script_rules.specs.Rules.{command_on, maker_command, layout_on, layout_made, layout_of, factored_made, factored}
+use Rattle.script_rules.specs.Rules.{command_on, maker_command, distribution_on, distribution_made, distribution_of, factored_made, factored}
 use Rattle.script_rules.proofs.Counting.{commands_from-append}
 
 -- ---- a list with one more item
@@ -70,6 +71,27 @@ maker-within script i line name le to =
     sym (ap (λ ns. maker ns line name) whole ∙ maker_from-append (commands_of front) (commands_from (1 + length front) back) line name None
     ∙ maker_from-late (1 + length front) back line name (maker (commands_of front) line name) (omega (arith, length-take_le script i le)))
 
+pending_from-append : (xs ys : List Numbered) (line : ℕ) (name : List ℕ) (before : List Flip) → pending_from (xs ++ ys) line name before ≡ pending_from ys line name (pending_from xs line name before)
+pending_from-append [] ys line name before = refl
+pending_from-append (n ∷ xs) ys line name before = pending_from-append xs ys line name (cond (ltb n.line line) (pending_after n.line n.command name before) before)
+
+pending_from-late : (k : ℕ) (lines : List (Option Command)) (line : ℕ) (name : List ℕ) (before : List Flip) → line ≤ k → pending_from (commands_from k lines) line name before ≡ before
+pending_from-late k [] line name before le = refl
+pending_from-late k (None ∷ lines) line name before le = pending_from-late (suc k) lines line name before (omega arith)
+pending_from-late k (Some c ∷ lines) line name before le =
+    ap (λ t. pending_from (commands_from (suc k) lines) line name (cond t (pending_after k c name before) before)) (not_lt k line le)
+    ∙ pending_from-late (suc k) lines line name before (omega arith)
+
+-- the pending flips of a name as seen from a line up to one, likewise
+pub pending-within : (script : List (Option Command)) (i line : ℕ) (name : List ℕ) → i ≤ length script → line ≤ suc i → pending (commands_of (take i script)) line name ≡ pending (commands_of script) line name
+pending-within script i line name le to =
+    let front = take i script in
+    let back = drop i script in
+    let whole : commands_of script ≡ commands_of front ++ commands_from (1 + length front) back =
+    ap commands_of (sym (take-append-drop i script)) ∙ commands_from-append 1 front back in
+    sym (ap (λ ns. pending ns line name) whole ∙ pending_from-append (commands_of front) (commands_from (1 + length front) back) line name []
+    ∙ pending_from-late (1 + length front) back line name (pending (commands_of front) line name) (omega (arith, length-take_le script i le)))
+
 pub maker-take : (script : List (Option Command)) (i : ℕ) (name : List ℕ) → i ≤ length script → maker (commands_of (take i script)) (suc i) name ≡ maker (commands_of script) (suc i) name
 maker-take script i name le = maker-within script i (suc i) name le (omega arith)
 
@@ -111,24 +133,24 @@ pub maker_command-take : (script : List (Option Command)) (i : ℕ) (name : List
 maker_command-take script i name le = maker_command-within script i (suc i) name le (omega arith)
 
 -- the matrix that a name means, likewise
-pub layout_of-within : (script : List (Option Command)) (i line : ℕ) (name : List ℕ) → i ≤ length script → line ≤ suc i → layout_of (commands_of (take i script)) line name ≡ layout_of (commands_of script) line name
-layout_of-within script i line name le to =
-    ap (λ o. layout_made (commands_of (take i script)) o (maker_command (commands_of (take i script)) line name)) (maker-within script i line name le to)
-    ∙ ap (layout_made (commands_of (take i script)) (maker (commands_of script) line name)) (maker_command-within script i line name le to)
+pub distribution_of-within : (script : List (Option Command)) (i line : ℕ) (name : List ℕ) → i ≤ length script → line ≤ suc i → distribution_of (commands_of (take i script)) line name ≡ distribution_of (commands_of script) line name
+distribution_of-within script i line name le to =
+    ap (λ o. distribution_made (commands_of (take i script)) o (maker_command (commands_of (take i script)) line name)) (maker-within script i line name le to)
+    ∙ ap (distribution_made (commands_of (take i script)) (maker (commands_of script) line name)) (maker_command-within script i line name le to)
     ∙ by_maker (maker (commands_of script) line name) refl
   where
-    by_command : (l : ℕ) (o : Option Command) → l < line → layout_made (commands_of (take i script)) (Some l) o ≡ layout_made (commands_of script) (Some l) o
+    by_command : (l : ℕ) (o : Option Command) → l < line → distribution_made (commands_of (take i script)) (Some l) o ≡ distribution_made (commands_of script) (Some l) o
     by_command l (Some (Matrix made grid m n mb nb rsrc csrc file)) lt =
-        ap (λ o. layout_on o (maker_command (commands_of (take i script)) l grid) m n mb nb rsrc csrc) (maker-within script i l grid le (omega arith))
-        ∙ ap (λ o. layout_on (maker (commands_of script) l grid) o m n mb nb rsrc csrc) (maker_command-within script i l grid le (omega arith))
+        ap (λ o. distribution_on o (maker_command (commands_of (take i script)) l grid) m n mb nb rsrc csrc) (maker-within script i l grid le (omega arith))
+        ∙ ap (λ o. distribution_on (maker (commands_of script) l grid) o m n mb nb rsrc csrc) (maker_command-within script i l grid le (omega arith))
     by_command l o lt = refl
 
-    by_maker : (o : Option ℕ) → maker (commands_of script) line name ≡ o → layout_made (commands_of (take i script)) o (command_on (commands_of script) o) ≡ layout_made (commands_of script) o (command_on (commands_of script) o)
+    by_maker : (o : Option ℕ) → maker (commands_of script) line name ≡ o → distribution_made (commands_of (take i script)) o (command_on (commands_of script) o) ≡ distribution_made (commands_of script) o (command_on (commands_of script) o)
     by_maker None e = refl
     by_maker (Some l) e = by_command l (command_at (commands_of script) l) (maker-lt (commands_of script) line name l e)
 
-pub layout_of-take : (script : List (Option Command)) (i : ℕ) (name : List ℕ) → i ≤ length script → layout_of (commands_of (take i script)) (suc i) name ≡ layout_of (commands_of script) (suc i) name
-layout_of-take script i name le = layout_of-within script i (suc i) name le (omega arith)
+pub distribution_of-take : (script : List (Option Command)) (i : ℕ) (name : List ℕ) → i ≤ length script → distribution_of (commands_of (take i script)) (suc i) name ≡ distribution_of (commands_of script) (suc i) name
+distribution_of-take script i name le = distribution_of-within script i (suc i) name le (omega arith)
 
 -- the matrix whose factorization made the list that a name means, likewise
 pub factored-take : (script : List (Option Command)) (i : ℕ) (name : List ℕ) → i ≤ length script → factored (commands_of (take i script)) (suc i) name ≡ factored (commands_of script) (suc i) name
@@ -138,7 +160,7 @@ factored-take script i name le =
     ∙ by_maker (maker (commands_of script) (suc i) name) refl
   where
     by_command : (l : ℕ) (o : Option Command) → l < suc i → factored_made (commands_of (take i script)) (Some l) o ≡ factored_made (commands_of script) (Some l) o
-    by_command l (Some (Pgetrf m n a ia ja v)) lt = layout_of-within script i l a le (omega arith)
+    by_command l (Some (Pgetrf m n a ia ja v)) lt = distribution_of-within script i l a le (omega arith)
     by_command l o lt = refl
 
     by_maker : (o : Option ℕ) → maker (commands_of script) (suc i) name ≡ o → factored_made (commands_of (take i script)) o (command_on (commands_of script) o) ≡ factored_made (commands_of script) o (command_on (commands_of script) o)

@@ -7,11 +7,11 @@ use Rattle.std.proofs.lemmas.List.{append-nil}
 use Rattle.blacs_grid.specs.Limits.{rank_limit}
 use Rattle.run_data.specs.declared.command.Command.{Command}
 use Rattle.run_data.specs.declared.command.Command.TheVariants as c
-use Rattle.run_data.specs.Script.{Numbered, commands_from, commands_of}
+use Rattle.run_data.specs.Script.{Numbered, commands_from, commands_of, modulus_after, modulus_from}
 use Rattle.script_rules.specs.declared.counts.Counts.{Counts}
 use Rattle.script_words.specs.Limits.{live_limit, matrix_limit, printed_limit, orders_limit}
 use Rattle.script_rules.specs.declared.told.Told.{Told}
-use Rattle.script_rules.specs.Rules.{total_after, total, ranks_made, matrices_made, matrices_dropped, lists_made, lists_dropped, words_printed, links_set, spares_set, numbers_ordered, maker_command, is_matrix_line, is_list_line, process_rows, process_columns, matrix_words, ranks_of, matrix_lines, live_matrices, printed_words, link_lines, spares_lines, ordered_numbers, is_order_number, grid_rules, matrix_rules, print_rules, links_rules, spares_rules, order_rules, own_rules}
+use Rattle.script_rules.specs.Rules.{total_after, total, ranks_made, matrices_made, matrices_dropped, lists_made, lists_dropped, words_printed, links_set, spares_set, fields_set, numbers_ordered, maker_command, is_matrix_line, is_list_line, process_rows, process_columns, matrix_words, ranks_of, matrix_lines, live_matrices, printed_words, link_lines, spares_lines, field_lines, ordered_numbers, is_order_number, grid_rules, matrix_rules, print_rules, links_rules, spares_rules, field_rules, order_rules, own_rules}
 use Rattle.script_words.specs.Tables.{first_code}
 use Rattle.script_rules.specs.Counted.{AreCounts}
 use Rattle.script_words.proofs.Tables.{all_kept}
@@ -25,6 +25,10 @@ total_after-append f before (m ∷ ns) n =
 pub total-append : (f : List Numbered → Numbered → ℕ) (ns : List Numbered) (n : Numbered) → total f (ns ++ n ∷ []) ≡ total f ns + f ns n
 total-append f ns n = total_after-append f [] ns n
 
+pub modulus_from-append : (before : ℕ) (ns : List Numbered) (n : Numbered) → modulus_from before (ns ++ n ∷ []) ≡ modulus_after n.command (modulus_from before ns)
+modulus_from-append before [] n = refl
+modulus_from-append before (m ∷ ns) n = modulus_from-append (modulus_after m.command before) ns n
+
 -- what one more command adds to the counts
 pub record Adds (counts counts' : Counts) (cs : List Numbered) (line : ℕ) (d : Command) : Type 0 where
   pub ranks : counts'.ranks ≡ counts.ranks + ranks_made d
@@ -35,6 +39,8 @@ pub record Adds (counts counts' : Counts) (cs : List Numbered) (line : ℕ) (d :
   pub printed : counts'.printed ≡ counts.printed + words_printed cs line d
   pub links : counts'.links ≡ counts.links + links_set d
   pub spares : counts'.spares ≡ counts.spares + spares_set d
+  pub fields : counts'.fields ≡ counts.fields + fields_set d
+  pub modulus : counts'.modulus ≡ modulus_after d counts.modulus
   pub ordered : counts'.ordered ≡ counts.ordered + numbers_ordered d
 
 -- counts within their limits
@@ -46,6 +52,7 @@ pub record AreFew (counts : Counts) (lines : ℕ) : Type 0 where
   pub dropped_lists : counts.dropped_lists ≤ lines
   pub links : counts.links ≤ 1
   pub spares : counts.spares ≤ 1
+  pub fields : counts.fields ≤ 1
   pub ordered : counts.ordered ≤ orders_limit
   pub printed : counts.printed ≤ printed_limit
 
@@ -63,6 +70,8 @@ AreCounts-next counts counts' lines line cs d h adds few =
       printed = adds.printed ∙ ap (λ k. k + words_printed cs line d) h.printed ∙ sym (total-append (λ before n. words_printed before n.line n.command) cs n);
       links = adds.links ∙ ap (λ k. k + links_set d) h.links ∙ sym (total-append (λ before n. links_set n.command) cs n);
       spares = adds.spares ∙ ap (λ k. k + spares_set d) h.spares ∙ sym (total-append (λ before n. spares_set n.command) cs n);
+      fields = adds.fields ∙ ap (λ k. k + fields_set d) h.fields ∙ sym (total-append (λ before n. fields_set n.command) cs n);
+      modulus = adds.modulus ∙ ap (modulus_after d) h.modulus ∙ sym (modulus_from-append 65537 cs n);
       ordered = adds.ordered ∙ ap (λ k. k + numbers_ordered d) h.ordered ∙ sym (total-append (λ before n. numbers_ordered n.command) cs n);
       few_ranks = few.ranks;
       few_matrices = few.matrices;
@@ -71,6 +80,7 @@ AreCounts-next counts counts' lines line cs d h adds few =
       few_dropped_lists = few.dropped_lists;
       few_links = few.links;
       few_spares = few.spares;
+      few_fields = few.fields;
       few_ordered = few.ordered;
       few_printed = few.printed;
     }
@@ -86,6 +96,8 @@ AreCounts-more counts lines more cs h le = record {
   printed = h.printed;
   links = h.links;
   spares = h.spares;
+  fields = h.fields;
+  modulus = h.modulus;
   ordered = h.ordered;
   few_ranks = h.few_ranks;
   few_matrices = h.few_matrices;
@@ -94,6 +106,7 @@ AreCounts-more counts lines more cs h le = record {
   few_dropped_lists = omega (arith, h.few_dropped_lists);
   few_links = h.few_links;
   few_spares = h.few_spares;
+  few_fields = h.few_fields;
   few_ordered = h.few_ordered;
   few_printed = h.few_printed;
 }
@@ -107,6 +120,7 @@ few_of counts lines line cs h next = record {
   dropped_lists = omega (arith, h.few_dropped_lists);
   links = h.few_links;
   spares = h.few_spares;
+  fields = h.few_fields;
   ordered = h.few_ordered;
   printed = h.few_printed;
 }
@@ -121,6 +135,8 @@ pub record CountsNothing (cs : List Numbered) (line : ℕ) (d : Command) : Type 
   pub printed : words_printed cs line d ≡ 0
   pub links : links_set d ≡ 0
   pub spares : spares_set d ≡ 0
+  pub fields : fields_set d ≡ 0
+  pub modulus : (before : ℕ) → modulus_after d before ≡ before
   pub ordered : numbers_ordered d ≡ 0
 
 adds_nothing : (counts : Counts) (cs : List Numbered) (line : ℕ) (d : Command) → CountsNothing cs line d → Adds counts counts cs line d
@@ -133,6 +149,8 @@ adds_nothing counts cs line d h = record {
   printed = omega (arith, h.printed);
   links = omega (arith, h.links);
   spares = omega (arith, h.spares);
+  fields = omega (arith, h.fields);
+  modulus = sym (h.modulus counts.modulus);
   ordered = omega (arith, h.ordered);
 }
 
@@ -142,17 +160,19 @@ AreCounts-same counts lines line cs d h next none = AreCounts-next counts counts
 
 pub CountsNothing-from_others : (cs : List Numbered) (line : ℕ) (d : Command) → ((n : List ℕ) (p q f : ℕ) → d ≡ c.Grid n p q f → ⊥) →
     ((n g : List ℕ) (m k mb nb rsrc csrc : ℕ) (file : List ℕ) → d ≡ c.Matrix n g m k mb nb rsrc csrc file → ⊥) → ((m n : ℕ) (a : List ℕ) (ia ja : ℕ) (v : List ℕ) → d ≡ c.Pgetrf m n a ia ja v → ⊥) →
-    ((n : List ℕ) → d ≡ c.Print n → ⊥) → ((n : List ℕ) → d ≡ c.Discard n → ⊥) → ((n : ℕ) → d ≡ c.Links n → ⊥) → ((n : ℕ) → d ≡ c.Spares n → ⊥) → ((numbers : List ℕ) → d ≡ c.Order numbers → ⊥) → CountsNothing cs line d
-CountsNothing-from_others cs line (c.Grid n p q f) grid matrix list print discard links spares order = absurd (grid n p q f refl)
-CountsNothing-from_others cs line (c.Matrix n g m k mb nb rsrc csrc file) grid matrix list print discard links spares order = absurd (matrix n g m k mb nb rsrc csrc file refl)
-CountsNothing-from_others cs line (c.Pgetrf m n a ia ja v) grid matrix list print discard links spares order = absurd (list m n a ia ja v refl)
-CountsNothing-from_others cs line (c.Print n) grid matrix list print discard links spares order = absurd (print n refl)
-CountsNothing-from_others cs line (c.Discard n) grid matrix list print discard links spares order = absurd (discard n refl)
-CountsNothing-from_others cs line (c.Links n) grid matrix list print discard links spares order = absurd (links n refl)
-CountsNothing-from_others cs line (c.Spares n) grid matrix list print discard links spares order = absurd (spares n refl)
-CountsNothing-from_others cs line (c.Order numbers) grid matrix list print discard links spares order = absurd (order numbers refl)
-CountsNothing-from_others cs line d grid matrix list print discard links spares order =
-    record { ranks = refl; matrices = refl; dropped = refl; lists = refl; dropped_lists = refl; printed = refl; links = refl; spares = refl; ordered = refl }
+    ((n : List ℕ) → d ≡ c.Print n → ⊥) → ((n : List ℕ) → d ≡ c.Discard n → ⊥) → ((n : ℕ) → d ≡ c.Links n → ⊥) → ((n : ℕ) → d ≡ c.Spares n → ⊥) → ((numbers : List ℕ) → d ≡ c.Order numbers → ⊥)
+    → ((n : ℕ) → d ≡ c.Field n → ⊥) → CountsNothing cs line d
+CountsNothing-from_others cs line (c.Grid n p q f) grid matrix list print discard links spares order field = absurd (grid n p q f refl)
+CountsNothing-from_others cs line (c.Matrix n g m k mb nb rsrc csrc file) grid matrix list print discard links spares order field = absurd (matrix n g m k mb nb rsrc csrc file refl)
+CountsNothing-from_others cs line (c.Pgetrf m n a ia ja v) grid matrix list print discard links spares order field = absurd (list m n a ia ja v refl)
+CountsNothing-from_others cs line (c.Print n) grid matrix list print discard links spares order field = absurd (print n refl)
+CountsNothing-from_others cs line (c.Discard n) grid matrix list print discard links spares order field = absurd (discard n refl)
+CountsNothing-from_others cs line (c.Links n) grid matrix list print discard links spares order field = absurd (links n refl)
+CountsNothing-from_others cs line (c.Spares n) grid matrix list print discard links spares order field = absurd (spares n refl)
+CountsNothing-from_others cs line (c.Order numbers) grid matrix list print discard links spares order field = absurd (order numbers refl)
+CountsNothing-from_others cs line (c.Field n) grid matrix list print discard links spares order field = absurd (field n refl)
+CountsNothing-from_others cs line d grid matrix list print discard links spares order field =
+    record { ranks = refl; matrices = refl; dropped = refl; lists = refl; dropped_lists = refl; printed = refl; links = refl; spares = refl; fields = refl; modulus = λ before. refl; ordered = refl }
 
 and_right : (a b : Bool) → (a && b) ≡ true → b ≡ true
 and_right true b e = e
@@ -183,7 +203,7 @@ counts_grid told counts lines line cs d name p q f e h next kept =
     let few = few_of counts lines line cs h next in
     subst (CountWith (record counts { ranks = counts.ranks + p * (q + f) }) cs line) (sym e)
     (AreCounts-next counts (record counts { ranks = counts.ranks + p * (q + f) }) lines line cs known h
-    (record { ranks = refl; matrices = omega arith; dropped = omega arith; lists = omega arith; dropped_lists = omega arith; printed = omega arith; links = omega arith; spares = omega arith; ordered = omega arith })
+    (record { ranks = refl; matrices = omega arith; dropped = omega arith; lists = omega arith; dropped_lists = omega arith; printed = omega arith; links = omega arith; spares = omega arith; fields = omega arith; modulus = refl; ordered = omega arith })
     (record {
       ranks = grid_ranks told counts lines line cs name p q f h (subst (KeepsOwn told cs line) e kept);
       matrices = few.matrices;
@@ -192,6 +212,7 @@ counts_grid told counts lines line cs d name p q f e h next kept =
       dropped_lists = few.dropped_lists;
       links = few.links;
       spares = few.spares;
+      fields = few.fields;
       ordered = few.ordered;
       printed = few.printed;
     }))
@@ -212,7 +233,7 @@ counts_matrix told counts lines line cs d name grid m n mb nb rsrc csrc file e h
     let few = few_of counts lines line cs h next in
     subst (CountWith (record counts { matrices = counts.matrices + 1 }) cs line) (sym e)
     (AreCounts-next counts (record counts { matrices = counts.matrices + 1 }) lines line cs known h
-    (record { ranks = omega arith; matrices = refl; dropped = omega arith; lists = omega arith; dropped_lists = omega arith; printed = omega arith; links = omega arith; spares = omega arith; ordered = omega arith })
+    (record { ranks = omega arith; matrices = refl; dropped = omega arith; lists = omega arith; dropped_lists = omega arith; printed = omega arith; links = omega arith; spares = omega arith; fields = omega arith; modulus = refl; ordered = omega arith })
     (record {
       ranks = few.ranks;
       matrices = matrix_few told counts lines line cs name grid m n mb nb rsrc csrc file h (subst (KeepsOwn told cs line) e kept);
@@ -221,6 +242,7 @@ counts_matrix told counts lines line cs d name grid m n mb nb rsrc csrc file e h
       dropped_lists = few.dropped_lists;
       links = few.links;
       spares = few.spares;
+      fields = few.fields;
       ordered = few.ordered;
       printed = few.printed;
     }))
@@ -232,7 +254,7 @@ counts_list told counts lines line cs d m n a ia ja v e h next kept =
     let few = few_of counts lines line cs h next in
     subst (CountWith (record counts { lists = counts.lists + 1 }) cs line) (sym e)
     (AreCounts-next counts (record counts { lists = counts.lists + 1 }) lines line cs known h
-    (record { ranks = omega arith; matrices = omega arith; dropped = omega arith; lists = refl; dropped_lists = omega arith; printed = omega arith; links = omega arith; spares = omega arith; ordered = omega arith })
+    (record { ranks = omega arith; matrices = omega arith; dropped = omega arith; lists = refl; dropped_lists = omega arith; printed = omega arith; links = omega arith; spares = omega arith; fields = omega arith; modulus = refl; ordered = omega arith })
     (record {
       ranks = few.ranks;
       matrices = few.matrices;
@@ -241,6 +263,7 @@ counts_list told counts lines line cs d m n a ia ja v e h next kept =
       dropped_lists = few.dropped_lists;
       links = few.links;
       spares = few.spares;
+      fields = few.fields;
       ordered = few.ordered;
       printed = few.printed;
     }))
@@ -258,7 +281,7 @@ counts_print told counts lines line cs d name e h next kept =
     let few = few_of counts lines line cs h next in
     subst (CountWith (record counts { printed = counts.printed + words_printed cs line (c.Print name) }) cs line) (sym e)
     (AreCounts-next counts (record counts { printed = counts.printed + words_printed cs line (c.Print name) }) lines line cs known h
-    (record { ranks = omega arith; matrices = omega arith; dropped = omega arith; lists = omega arith; dropped_lists = omega arith; printed = refl; links = omega arith; spares = omega arith; ordered = omega arith })
+    (record { ranks = omega arith; matrices = omega arith; dropped = omega arith; lists = omega arith; dropped_lists = omega arith; printed = refl; links = omega arith; spares = omega arith; fields = omega arith; modulus = refl; ordered = omega arith })
     (record {
       ranks = few.ranks;
       matrices = few.matrices;
@@ -267,6 +290,7 @@ counts_print told counts lines line cs d name e h next kept =
       dropped_lists = few.dropped_lists;
       links = few.links;
       spares = few.spares;
+      fields = few.fields;
       ordered = few.ordered;
       printed = print_few told counts lines line cs name h (subst (KeepsOwn told cs line) e kept);
     }))
@@ -283,7 +307,7 @@ counts_links told counts lines line cs d n e h next kept =
     let few = few_of counts lines line cs h next in
     subst (CountWith (record counts { links = counts.links + 1 }) cs line) (sym e)
     (AreCounts-next counts (record counts { links = counts.links + 1 }) lines line cs known h
-    (record { ranks = omega arith; matrices = omega arith; dropped = omega arith; lists = omega arith; dropped_lists = omega arith; printed = omega arith; links = refl; spares = omega arith; ordered = omega arith })
+    (record { ranks = omega arith; matrices = omega arith; dropped = omega arith; lists = omega arith; dropped_lists = omega arith; printed = omega arith; links = refl; spares = omega arith; fields = omega arith; modulus = refl; ordered = omega arith })
     (record {
       ranks = few.ranks;
       matrices = few.matrices;
@@ -292,6 +316,7 @@ counts_links told counts lines line cs d n e h next kept =
       dropped_lists = few.dropped_lists;
       links = links_few told counts lines line cs n h (subst (KeepsOwn told cs line) e kept);
       spares = few.spares;
+      fields = few.fields;
       ordered = few.ordered;
       printed = few.printed;
     }))
@@ -308,7 +333,7 @@ counts_spares told counts lines line cs d n e h next kept =
     let few = few_of counts lines line cs h next in
     subst (CountWith (record counts { spares = counts.spares + 1 }) cs line) (sym e)
     (AreCounts-next counts (record counts { spares = counts.spares + 1 }) lines line cs known h
-    (record { ranks = omega arith; matrices = omega arith; dropped = omega arith; lists = omega arith; dropped_lists = omega arith; printed = omega arith; links = omega arith; spares = refl; ordered = omega arith })
+    (record { ranks = omega arith; matrices = omega arith; dropped = omega arith; lists = omega arith; dropped_lists = omega arith; printed = omega arith; links = omega arith; spares = refl; fields = omega arith; modulus = refl; ordered = omega arith })
     (record {
       ranks = few.ranks;
       matrices = few.matrices;
@@ -317,6 +342,33 @@ counts_spares told counts lines line cs d n e h next kept =
       dropped_lists = few.dropped_lists;
       links = few.links;
       spares = spares_few told counts lines line cs n h (subst (KeepsOwn told cs line) e kept);
+      fields = few.fields;
+      ordered = few.ordered;
+      printed = few.printed;
+    }))
+
+fields_few : (told : Told) (counts : Counts) (lines line : ℕ) (cs : List Numbered) (n : ℕ) → AreCounts counts lines cs → KeepsOwn told cs line (c.Field n) → counts.fields + 1 ≤ 1
+fields_few told counts lines line cs n h kept =
+    let none = eqb-true (field_lines cs) 0 (all_kept (field_rules (field_lines cs) (matrix_lines cs) n) kept).1.0 in
+    omega (arith, none, h.fields)
+
+pub counts_field : (told : Told) (counts : Counts) (lines line : ℕ) (cs : List Numbered) (d : Command) (n : ℕ) → d ≡ c.Field n → AreCounts counts lines cs → line ≡ suc lines → KeepsOwn told cs line d →
+    CountWith (record counts { fields = counts.fields + 1; modulus = n }) cs line d
+counts_field told counts lines line cs d n e h next kept =
+    let known = c.Field n in
+    let few = few_of counts lines line cs h next in
+    subst (CountWith (record counts { fields = counts.fields + 1; modulus = n }) cs line) (sym e)
+    (AreCounts-next counts (record counts { fields = counts.fields + 1; modulus = n }) lines line cs known h
+    (record { ranks = omega arith; matrices = omega arith; dropped = omega arith; lists = omega arith; dropped_lists = omega arith; printed = omega arith; links = omega arith; spares = omega arith; fields = refl; modulus = refl; ordered = omega arith })
+    (record {
+      ranks = few.ranks;
+      matrices = few.matrices;
+      dropped = few.dropped;
+      lists = few.lists;
+      dropped_lists = few.dropped_lists;
+      links = few.links;
+      spares = few.spares;
+      fields = fields_few told counts lines line cs n h (subst (KeepsOwn told cs line) e kept);
       ordered = few.ordered;
       printed = few.printed;
     }))
@@ -334,7 +386,7 @@ counts_order told counts lines line cs d numbers e h next kept =
     let few = few_of counts lines line cs h next in
     subst (CountWith (record counts { ordered = counts.ordered + length numbers }) cs line) (sym e)
     (AreCounts-next counts (record counts { ordered = counts.ordered + length numbers }) lines line cs known h
-    (record { ranks = omega arith; matrices = omega arith; dropped = omega arith; lists = omega arith; dropped_lists = omega arith; printed = omega arith; links = omega arith; spares = omega arith; ordered = refl })
+    (record { ranks = omega arith; matrices = omega arith; dropped = omega arith; lists = omega arith; dropped_lists = omega arith; printed = omega arith; links = omega arith; spares = omega arith; fields = omega arith; modulus = refl; ordered = refl })
     (record {
       ranks = few.ranks;
       matrices = few.matrices;
@@ -343,6 +395,7 @@ counts_order told counts lines line cs d numbers e h next kept =
       dropped_lists = few.dropped_lists;
       links = few.links;
       spares = few.spares;
+      fields = few.fields;
       ordered = order_few told counts lines line cs numbers h (subst (KeepsOwn told cs line) e kept);
       printed = few.printed;
     }))
@@ -369,6 +422,8 @@ counts_dropped_matrix counts lines line cs name h next t =
       printed = omega arith;
       links = omega arith;
       spares = omega arith;
+      fields = omega arith;
+      modulus = refl;
       ordered = omega arith;
     })
     (record {
@@ -379,6 +434,7 @@ counts_dropped_matrix counts lines line cs name h next t =
       dropped_lists = few.dropped_lists;
       links = few.links;
       spares = few.spares;
+      fields = few.fields;
       ordered = few.ordered;
       printed = few.printed;
     })
@@ -397,6 +453,8 @@ counts_dropped_list counts lines line cs name h next m t =
       printed = omega arith;
       links = omega arith;
       spares = omega arith;
+      fields = omega arith;
+      modulus = refl;
       ordered = omega arith;
     })
     (record {
@@ -407,6 +465,7 @@ counts_dropped_list counts lines line cs name h next m t =
       dropped_lists = omega (arith, h.few_dropped_lists);
       links = few.links;
       spares = few.spares;
+      fields = few.fields;
       ordered = few.ordered;
       printed = few.printed;
     })
@@ -423,6 +482,8 @@ counts_dropped_none counts lines line cs name h next m l =
       printed = refl;
       links = refl;
       spares = refl;
+      fields = refl;
+      modulus = λ before. refl;
       ordered = refl;
     })
 

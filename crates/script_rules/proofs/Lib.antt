@@ -1,4 +1,5 @@
 pub mod Inside
 pub mod Counting
+pub mod Flipping
 pub mod Before
 pub mod ToldLines

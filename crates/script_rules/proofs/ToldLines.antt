@@ -1,6 +1,6 @@
 -- What lines tell as a script, one line after another, as a loop adds it up.
-use Rattle.std.proofs.Common.{◌≡◌, ℕ, ◌+◌, ◌*◌, ◌<◌, ◌≤◌, Bool, true, false, cond, List, [], ◌∷◌, length, get_or, drop, refl, sym, ap, ◌∙◌, arith}
-use Rattle.std.specs.Prelude.{◌||◌, codes}
+use Rattle.std.proofs.Common.{◌≡◌, ℕ, ◌+◌, ◌*◌, ◌<◌, ◌≤◌, true, cond, List, [], ◌∷◌, length, get_or, drop, sym, ap, ◌∙◌, arith}
+use Rattle.std.specs.Prelude.{codes}
 use Rattle.std.specs.List.{sum_by}
 use Rattle.std.specs.Str.{bytes_eq}
 use Rattle.std.proofs.lemmas.List.{length-drop}
@@ -8,7 +8,7 @@ use Rattle.std.proofs.lemmas.List.Sums.{sum_by-cons}
 use Rattle.script_rules.specs.declared.told.Told.{Told}
 use Rattle.script_words.specs.Numbers.{number_of}
 use Rattle.script_words.specs.Lines.{until, from_on, is_line_feed, line_words, word_lines}
-use Rattle.script_rules.specs.Told.{shape_ranks, ranks_told, tells_loss, tell_loss, told_by}
+use Rattle.script_rules.specs.Told.{shape_ranks, ranks_told, told_by}
 use Rattle.script_words.proofs.Cuts.{word_lines-cut, word_lines-end}
 
 -- a `grid` line of five words
@@ -28,39 +28,27 @@ ranks_told-five (x0 ∷ x1 ∷ x2 ∷ x3 ∷ x4 ∷ []) first p q f le lt e0 e2 
     ∙ ap (λ x. shape_ranks (number_of p) (number_of x) (number_of x4)) (sym e3) ∙ ap (λ x. shape_ranks (number_of p) (number_of q) (number_of x)) (sym e4)
 ranks_told-five (x0 ∷ x1 ∷ x2 ∷ x3 ∷ x4 ∷ x5 ∷ more) first p q f le lt e0 e2 e3 e4 t = absurd (omega arith)
 
-pub or_false : (x : Bool) → (x || false) ≡ x
-or_false true = refl
-or_false false = refl
-
 -- ---- telling line by line, as a loop does
 
 -- what the lines so far tell, beside the text that is left of a text of so many bytes
 pub record AreTold (bytes rest : List ℕ) (all : Told) : Type 0 where
   pub ranks : all.ranks + sum_by ranks_told (word_lines rest) ≡ sum_by ranks_told (word_lines bytes)
-  pub losses : (all.has_losses || tell_loss (word_lines rest)) ≡ tell_loss (word_lines bytes)
   pub few : all.ranks + 320 * length rest ≤ 320 * length bytes
 
-or_swap : (x y z : Bool) → ((x || y) || z) ≡ (y || (x || z))
-or_swap true true z = refl
-or_swap true false z = refl
-or_swap false y z = refl
-
 pub told_more : (bytes rest line after next : List ℕ) (words : List (List ℕ)) (all all' : Told) → 0 < length rest → line ≡ until is_line_feed rest → after ≡ from_on is_line_feed rest → next ≡ drop 1 after →
-    length line + length after ≡ length rest → words ≡ line_words line → all'.ranks ≡ all.ranks + ranks_told words → ranks_told words ≤ 320 → all'.has_losses ≡ (tells_loss words || all.has_losses) →
+    length line + length after ≡ length rest → words ≡ line_words line → all'.ranks ≡ all.ranks + ranks_told words → ranks_told words ≤ 320 →
     AreTold bytes rest all → AreTold bytes next all'
-told_more bytes rest line after next words all all' lt l a n parts s r few b h =
+told_more bytes rest line after next words all all' lt l a n parts s r few h =
     let cutting : word_lines rest ≡ words ∷ word_lines next = word_lines-cut rest line after next lt l a n ∙ ap (λ x. x ∷ word_lines next) (sym s) in
     let size : length next + 1 ≤ length rest = omega (arith, ap length n ∙ length-drop 1 after, parts, lt) in
     record {
       ranks = omega (arith, r, ap (sum_by ranks_told) cutting ∙ sum_by-cons ranks_told words (word_lines next), h.ranks);
-      losses = ap (λ x. x || tell_loss (word_lines next)) b ∙ or_swap (tells_loss words) all.has_losses (tell_loss (word_lines next)) ∙ ap (λ ws. all.has_losses || tell_loss ws) (sym cutting) ∙ h.losses;
       few = omega (arith, r, few, size, h.few);
     }
 
-pub told_start : (bytes : List ℕ) (all : Told) → all.ranks ≡ 0 → all.has_losses ≡ false → AreTold bytes bytes all
-told_start bytes all r b = record {
+pub told_start : (bytes : List ℕ) (all : Told) → all.ranks ≡ 0 → AreTold bytes bytes all
+told_start bytes all r = record {
   ranks = omega (arith, r);
-  losses = ap (λ x. x || tell_loss (word_lines bytes)) b;
   few = omega (arith, r);
 }
 
@@ -68,5 +56,4 @@ pub told_end : (bytes rest : List ℕ) (all : Told) → length rest ≡ 0 → Ar
 told_end bytes rest all z h =
     let none : word_lines rest ≡ [] = word_lines-end rest z in
     let ranks : all.ranks ≡ sum_by ranks_told (word_lines bytes) = omega (arith, ap (sum_by ranks_told) none, h.ranks) in
-    let losses : all.has_losses ≡ tell_loss (word_lines bytes) = sym (or_false all.has_losses) ∙ ap (λ ws. all.has_losses || tell_loss ws) (sym none) ∙ h.losses in
-    λ i. record { ranks = ranks i; has_losses = losses i }
+    λ i. record { ranks = ranks i }

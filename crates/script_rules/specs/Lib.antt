@@ -3,3 +3,4 @@ pub mod Rules
 pub mod Told
 pub mod Counted
 pub mod Runs
+pub mod Flipping

@@ -1,5 +1,5 @@
 -- The rules of a script's lines, and the first that a line breaks. A rule is its code, and whether it is kept.
-use Rattle.std.specs.Prelude.{ℕ, ◌+◌, ◌-◌, ◌*◌, ◌==◌, if◌then◌else◌, Bool, true, false, ◌&&◌, ◌||◌, not, nat_le, nat_lt, List, [], ◌∷◌, ◌++◌, length, map, codes, is_some, is_none, Option, Some, None, ℤ, pos, negsuc}
+use Rattle.std.specs.Prelude.{ℕ, ◌+◌, ◌-◌, ◌*◌, ◌/◌, ◌%◌, ◌==◌, if◌then◌else◌, Bool, true, false, ◌&&◌, ◌||◌, not, nat_le, nat_lt, List, [], ◌∷◌, ◌++◌, length, map, codes, is_some, is_none, Option, Some, None, ℤ, pos, negsuc}
 use Rattle.std.specs.Option.{option_or}
 use Rattle.std.specs.Str.{bytes_eq, is_utf8}
 use Rattle.std.specs.List.{list_all}
@@ -7,15 +7,17 @@ use Rattle.array_desc.specs.Descriptors.{checked_entries, is_between_one_and}
 use Rattle.blacs_grid.specs.Limits.{process_limit, code_column_limit, rank_limit}
 use Rattle.run_data.specs.declared.command.Command.{Command}
 use Rattle.run_data.specs.declared.command.Command.TheVariants as c
-use Rattle.run_data.specs.Script.{Numbered, command_at, maker, is_grid_line}
+use Rattle.run_data.specs.declared.flips.Flip.{Flip}
+use Rattle.run_data.specs.Script.{Numbered, command_at, maker, is_grid_line, modulus_of}
+use Rattle.run_data.specs.Flips.{pending}
 use Rattle.script_words.specs.declared.kinds.Kind.{Kind}
 use Rattle.script_words.specs.declared.kinds.Kind.TheVariants.{NewName, GridName, MatrixName, ListName, ThingName, Number, FileName, Letter}
-use Rattle.script_rules.specs.declared.layouts.Layout.{Layout}
+use Rattle.script_rules.specs.declared.distributions.Distribution.{Distribution}
 use Rattle.script_rules.specs.declared.told.Told.{Told}
 use Rattle.script_words.specs.Limits.{live_limit, matrix_limit, printed_limit, capacity_limit, order_limit, orders_limit, spares_limit}
 use Rattle.script_words.specs.Names.{is_name}
 use Rattle.script_words.specs.Numbers.{number_of}
-use Rattle.script_rules.specs.Routines.{is_option, pgemm_rules, ptrsm_rules, pgetrf_rules, pgetrs_rules, pgemr2d_rules}
+use Rattle.script_rules.specs.Routines.{is_option, pgemm_rules, ptrsm_rules, pgetrf_rules, pgetrs_rules, pgemr2d_rules, ptran_rules, pgetri_rules}
 use Rattle.script_words.specs.Tables.{first_code}
 
 -- ---- what names mean, after the commands of earlier lines
@@ -53,29 +55,29 @@ matrix_words _ = 0
 -- ---- the matrices that names mean
 
 -- what a name that means no matrix has
-abbrev pub no_layout : Layout
-no_layout = record { grid = 0; p = 0; q = 0; f = 0; m = 0; n = 0; mb = 0; nb = 0; rsrc = 0; csrc = 0 }
+abbrev pub no_distribution : Distribution
+no_distribution = record { grid = 0; p = 0; q = 0; f = 0; m = 0; n = 0; mb = 0; nb = 0; rsrc = 0; csrc = 0 }
 
 -- a matrix on a grid, by the grid's line and command
-abbrev pub layout_on : Option ℕ → Option Command → ℕ → ℕ → ℕ → ℕ → ℕ → ℕ → Layout
-layout_on (Some grid) (Some (c.Grid name p q f)) m n mb nb rsrc csrc = record { grid = grid; p = p; q = q; f = f; m = m; n = n; mb = mb; nb = nb; rsrc = rsrc; csrc = csrc }
-layout_on grid command m n mb nb rsrc csrc = no_layout
+abbrev pub distribution_on : Option ℕ → Option Command → ℕ → ℕ → ℕ → ℕ → ℕ → ℕ → Distribution
+distribution_on (Some grid) (Some (c.Grid name p q f)) m n mb nb rsrc csrc = record { grid = grid; p = p; q = q; f = f; m = m; n = n; mb = mb; nb = nb; rsrc = rsrc; csrc = csrc }
+distribution_on grid command m n mb nb rsrc csrc = no_distribution
 
 -- the matrix that the command on a line made
-abbrev pub layout_made : List Numbered → Option ℕ → Option Command → Layout
-layout_made cs (Some at) (Some (c.Matrix name grid m n mb nb rsrc csrc file)) = layout_on (maker cs at grid) (maker_command cs at grid) m n mb nb rsrc csrc
-layout_made cs at command = no_layout
+abbrev pub distribution_made : List Numbered → Option ℕ → Option Command → Distribution
+distribution_made cs (Some at) (Some (c.Matrix name grid m n mb nb rsrc csrc file)) = distribution_on (maker cs at grid) (maker_command cs at grid) m n mb nb rsrc csrc
+distribution_made cs at command = no_distribution
 
 -- the matrix that a name means as seen from a line
-abbrev pub layout_of : List Numbered → ℕ → List ℕ → Layout
-layout_of cs line name = layout_made cs (maker cs line name) (maker_command cs line name)
+abbrev pub distribution_of : List Numbered → ℕ → List ℕ → Distribution
+distribution_of cs line name = distribution_made cs (maker cs line name) (maker_command cs line name)
 
 -- the matrix whose factorization made the pivot list that a name means as seen from a line
-abbrev pub factored_made : List Numbered → Option ℕ → Option Command → Layout
-factored_made cs (Some at) (Some (c.Pgetrf m n a ia ja v)) = layout_of cs at a
-factored_made cs at command = no_layout
+abbrev pub factored_made : List Numbered → Option ℕ → Option Command → Distribution
+factored_made cs (Some at) (Some (c.Pgetrf m n a ia ja v)) = distribution_of cs at a
+factored_made cs at command = no_distribution
 
-abbrev pub factored : List Numbered → ℕ → List ℕ → Layout
+abbrev pub factored : List Numbered → ℕ → List ℕ → Distribution
 factored cs line name = factored_made cs (maker cs line name) (maker_command cs line name)
 
 -- ---- the words of a line
@@ -142,6 +144,10 @@ abbrev pub spares_set : Command → ℕ
 spares_set (c.Spares n) = 1
 spares_set _ = 0
 
+abbrev pub fields_set : Command → ℕ
+fields_set (c.Field n) = 1
+fields_set _ = 0
+
 abbrev pub numbers_ordered : Command → ℕ
 numbers_ordered (c.Order numbers) = length numbers
 numbers_ordered _ = 0
@@ -187,6 +193,10 @@ link_lines cs = total (λ before n. links_set n.command) cs
 abbrev pub spares_lines : List Numbered → ℕ
 spares_lines cs = total (λ before n. spares_set n.command) cs
 
+-- the `field` lines
+abbrev pub field_lines : List Numbered → ℕ
+field_lines cs = total (λ before n. fields_set n.command) cs
+
 -- the numbers of all `order` lines
 abbrev pub ordered_numbers : List Numbered → ℕ
 ordered_numbers cs = total (λ before n. numbers_ordered n.command) cs
@@ -211,9 +221,9 @@ matrix_rules live lines p q m n mb nb rsrc csrc =
 abbrev pub print_rules : ℕ → ℕ → List (ℤ × Bool)
 print_rules printed words = (pos 10, nat_le (printed + words) printed_limit) ∷ []
 
--- a new list after so many live ones; no matrix with code columns is factored in a script with `lose` lines
-abbrev pub list_rules : ℕ → Bool → Layout → List (ℤ × Bool)
-list_rules live has_losses a = (pos 10, nat_lt live live_limit) ∷ (pos 17, not has_losses || (a.f == 0)) ∷ []
+-- a new list after so many live ones
+abbrev pub list_rules : ℕ → List (ℤ × Bool)
+list_rules live = (pos 10, nat_lt live live_limit) ∷ []
 
 abbrev pub topology_rules : List ℕ → List (ℤ × Bool)
 topology_rules kind = (pos 8, is_option (codes "I") (codes "i") kind || is_option (codes "D") (codes "d") kind || is_option (codes "T") (codes "t") kind) ∷ []
@@ -233,54 +243,94 @@ lose_rules ranks rank = (pos 8, nat_lt rank ranks) ∷ []
 abbrev pub spares_rules : ℕ → ℕ → List (ℤ × Bool)
 spares_rules lines n = (pos 8, nat_le n spares_limit) ∷ (pos 21, lines == 0) ∷ []
 
--- the rules of each routine on a line, by the matrices that its names mean; another command has none of them
-abbrev pub pgemm_line : List Numbered → ℕ → Command → List (ℤ × Bool)
-pgemm_line cs line (c.Pgemm transa transb m n k alpha a ia ja b ib jb beta x ic jc) =
-    pgemm_rules transa transb m n k alpha ia ja ib jb beta (not (bytes_eq x a) && not (bytes_eq x b)) ic jc (layout_of cs line a) (layout_of cs line b) (layout_of cs line x)
-pgemm_line cs line _ = []
+-- a field after so many field lines and so many matrix lines: that of one of two primes
+abbrev pub field_rules : ℕ → ℕ → ℕ → List (ℤ × Bool)
+field_rules lines matrices n = (pos 8, (n == 65537) || (n == 65521)) ∷ (pos 19, lines == 0) ∷ (pos 20, matrices == 0) ∷ []
 
-abbrev pub ptrsm_line : List Numbered → ℕ → Command → List (ℤ × Bool)
-ptrsm_line cs line (c.Ptrsm side uplo transa diag m n alpha a ia ja b ib jb) =
-    ptrsm_rules side uplo transa diag m n alpha ia ja (not (bytes_eq b a)) ib jb (layout_of cs line a) (layout_of cs line b)
-ptrsm_line cs line _ = []
+-- where a column of a matrix lies, counted from 1: the group of its block column, and the place in its block
+abbrev pub group_of : Distribution → ℕ → ℕ
+group_of a j = ((j - 1) / a.nb) / a.q
+
+abbrev pub place_of : Distribution → ℕ → ℕ
+place_of a j = (j - 1) % a.nb
+
+-- a word of a matrix and one that a flip names may be wrong at once: the code of a row says of no two words in one group and at one place of their blocks
+-- which of them is wrong
+abbrev pub is_apart : Distribution → ℕ → ℕ → Flip → Bool
+is_apart a i j flip = not ((flip.row == i) && not (flip.column == j) && (group_of a flip.column == group_of a j) && (place_of a flip.column == place_of a j))
+
+-- a flip of a matrix modulo p, where these are pending
+abbrev pub flip_rules : ℕ → Distribution → List Flip → ℕ → ℕ → ℕ → List (ℤ × Bool)
+flip_rules p a flips i j x =
+    (pos 8, is_between_one_and a.m i && is_between_one_and a.n j && nat_lt x p) ∷ (pos 23, nat_le 2 a.f) ∷ (pos 24, list_all (is_apart a i j) flips) ∷ []
+
+abbrev pub pverify_rules : Distribution → List (ℤ × Bool)
+pverify_rules a = (pos 22, nat_le 1 a.f) ∷ []
+
+-- the rules of each routine on a line over the field of modulus p, by the matrices that its names mean; another command has none of them
+abbrev pub pgemm_line : ℕ → List Numbered → ℕ → Command → List (ℤ × Bool)
+pgemm_line p cs line (c.Pgemm transa transb m n k alpha a ia ja b ib jb beta x ic jc) =
+    pgemm_rules p transa transb m n k alpha ia ja ib jb beta (not (bytes_eq x a) && not (bytes_eq x b)) ic jc (distribution_of cs line a) (distribution_of cs line b) (distribution_of cs line x)
+pgemm_line p cs line _ = []
+
+abbrev pub ptrsm_line : ℕ → List Numbered → ℕ → Command → List (ℤ × Bool)
+ptrsm_line p cs line (c.Ptrsm side uplo transa diag m n alpha a ia ja b ib jb) =
+    ptrsm_rules p side uplo transa diag m n alpha ia ja (not (bytes_eq b a)) ib jb (distribution_of cs line a) (distribution_of cs line b)
+ptrsm_line p cs line _ = []
 
 abbrev pub pgetrf_line : List Numbered → ℕ → Command → List (ℤ × Bool)
-pgetrf_line cs line (c.Pgetrf m n a ia ja v) = pgetrf_rules m n ia ja (layout_of cs line a)
+pgetrf_line cs line (c.Pgetrf m n a ia ja v) = pgetrf_rules m n ia ja (distribution_of cs line a)
 pgetrf_line cs line _ = []
 
 abbrev pub pgetrs_line : List Numbered → ℕ → Command → List (ℤ × Bool)
 pgetrs_line cs line (c.Pgetrs trans n nrhs a ia ja v b ib jb) =
-    pgetrs_rules trans n nrhs ia ja (not (bytes_eq b a)) ib jb (layout_of cs line a) (factored cs line v) (layout_of cs line b)
+    pgetrs_rules trans n nrhs ia ja (not (bytes_eq b a)) ib jb (distribution_of cs line a) (factored cs line v) (distribution_of cs line b)
 pgetrs_line cs line _ = []
 
 abbrev pub pgemr2d_line : List Numbered → ℕ → Command → List (ℤ × Bool)
 pgemr2d_line cs line (c.Pgemr2d m n a ia ja b ib jb ctxt) =
-    pgemr2d_rules m n ia ja (not (bytes_eq b a)) ib jb ctxt (layout_of cs line a) (layout_of cs line b)
+    pgemr2d_rules m n ia ja (not (bytes_eq b a)) ib jb ctxt (distribution_of cs line a) (distribution_of cs line b)
 pgemr2d_line cs line _ = []
 
-abbrev pub routine_rules : List Numbered → ℕ → Command → List (ℤ × Bool)
-routine_rules cs line command = pgemm_line cs line command ++ ptrsm_line cs line command ++ pgetrf_line cs line command ++ pgetrs_line cs line command ++ pgemr2d_line cs line command
+abbrev pub ptran_line : ℕ → List Numbered → ℕ → Command → List (ℤ × Bool)
+ptran_line p cs line (c.Ptran m n alpha a ia ja beta x ic jc) =
+    ptran_rules p m n alpha ia ja beta (not (bytes_eq x a)) ic jc (distribution_of cs line a) (distribution_of cs line x)
+ptran_line p cs line _ = []
+
+abbrev pub pgetri_line : List Numbered → ℕ → Command → List (ℤ × Bool)
+pgetri_line cs line (c.Pgetri n a ia ja v b ib jb) = pgetri_rules n ia ja (not (bytes_eq b a)) ib jb (distribution_of cs line a) (factored cs line v) (distribution_of cs line b)
+pgetri_line cs line _ = []
+
+abbrev pub routine_rules : ℕ → List Numbered → ℕ → Command → List (ℤ × Bool)
+routine_rules p cs line command =
+    pgemm_line p cs line command ++ ptrsm_line p cs line command ++ pgetrf_line cs line command ++ pgetrs_line cs line command ++ pgemr2d_line cs line command
+    ++ ptran_line p cs line command ++ pgetri_line cs line command
 
 -- the rules of a command of the script's own
 abbrev pub own_rules : Told → List Numbered → ℕ → Command → List (ℤ × Bool)
 own_rules told cs line (c.Grid name p q f) = grid_rules (ranks_of cs) p q f
 own_rules told cs line (c.Matrix name grid m n mb nb rsrc csrc file) =
     matrix_rules (live_matrices cs) (matrix_lines cs) (process_rows (maker_command cs line grid)) (process_columns (maker_command cs line grid)) m n mb nb rsrc csrc
-own_rules told cs line (c.Pgetrf m n a ia ja v) = list_rules (live_lists cs) told.has_losses (layout_of cs line a)
+own_rules told cs line (c.Pgetrf m n a ia ja v) = list_rules (live_lists cs)
 own_rules told cs line (c.Print name) = print_rules (printed_words cs) (matrix_words (maker_command cs line name))
 own_rules told cs line (c.Topology kind) = topology_rules kind
 own_rules told cs line (c.Links n) = links_rules (link_lines cs) n
 own_rules told cs line (c.Order numbers) = order_rules (ordered_numbers cs) numbers
 own_rules told cs line (c.Lose at rank) = lose_rules told.ranks rank
 own_rules told cs line (c.Spares n) = spares_rules (spares_lines cs) n
+own_rules told cs line (c.Field n) = field_rules (field_lines cs) (matrix_lines cs) n
+own_rules told cs line (c.Flip name i j x) = flip_rules (modulus_of cs) (distribution_of cs line name) (pending cs line name) i j x
+own_rules told cs line (c.Pverify name) = pverify_rules (distribution_of cs line name)
 own_rules told cs line (c.Pgemm transa transb m n k alpha a ia ja b ib jb beta x ic jc) = []
 own_rules told cs line (c.Ptrsm side uplo transa diag m n alpha a ia ja b ib jb) = []
 own_rules told cs line (c.Pgetrs trans n nrhs a ia ja v b ib jb) = []
 own_rules told cs line (c.Pgemr2d m n a ia ja b ib jb ctxt) = []
+own_rules told cs line (c.Ptran m n alpha a ia ja beta x ic jc) = []
+own_rules told cs line (c.Pgetri n a ia ja v b ib jb) = []
 own_rules told cs line (c.Pivots name) = []
 own_rules told cs line (c.Discard name) = []
 
 -- the rules of a command on a line, after those of its words: of the routine, and then of what a script may hold; what the whole script
 -- tells beforehand is `told`
 abbrev pub rules : Told → List Numbered → ℕ → Command → List (ℤ × Bool)
-rules told cs line command = routine_rules cs line command ++ own_rules told cs line command
+rules told cs line command = routine_rules (modulus_of cs) cs line command ++ own_rules told cs line command

@@ -6,11 +6,12 @@ ghost use Rattle.script_rules.specs.Rules.{own_rules, rules};
 ghost use Rattle.script_rules.specs.Counted.{AreCounts, commands_before};
 ghost use Rattle.script_rules.specs.declared.told.Told.{Told};
 
-use crate::layouts::layout_of;
+use crate::distributions::distribution_of;
+use crate::flips::flip_code;
 use crate::routines::routine_code;
 use crate::rules::{
-    grid_code, grid_shape, is_list, is_matrix, links_code, list_code, lose_code, matrix_code,
-    matrix_words, order_code, print_code, spares_code, topology_code,
+    field_code, grid_code, grid_shape, is_list, is_matrix, links_code, list_code, lose_code,
+    matrix_code, matrix_words, order_code, print_code, pverify_code, spares_code, topology_code,
 };
 use crate::told::Told;
 use run_data::{Command, Script};
@@ -34,6 +35,10 @@ pub struct Counts {
     pub links: u32,
     /// The `spares` lines.
     pub spares: u32,
+    /// The `field` lines.
+    pub fields: u32,
+    /// The modulus of the field.
+    pub modulus: u32,
     /// The numbers of all `order` lines.
     pub ordered: u32,
 }
@@ -52,6 +57,8 @@ impl Counts {
             printed: 0,
             links: 0,
             spares: 0,
+            fields: 0,
+            modulus: 65537,
             ordered: 0,
         }
     }
@@ -79,9 +86,9 @@ impl Counts {
                 let live = self.matrices.saturating_sub(self.dropped);
                 matrix_code(live, self.matrices, p, q, *m, *n, *mb, *nb, *rsrc, *csrc)
             }
-            Command::Pgetrf { a, .. } => {
+            Command::Pgetrf { .. } => {
                 let live = self.lists.saturating_sub(self.dropped_lists);
-                list_code(live, told.has_losses, layout_of(script, line, a.bytes()))
+                list_code(live)
             }
             Command::Print { name } => {
                 print_code(self.printed, matrix_words(script, line, name.bytes()))
@@ -91,6 +98,12 @@ impl Counts {
             Command::Order { numbers } => order_code(self.ordered, numbers),
             Command::Lose { rank, .. } => lose_code(told.ranks, *rank),
             Command::Spares { n } => spares_code(self.spares, *n),
+            Command::Field { n } => field_code(self.fields, self.matrices, *n),
+            Command::Flip { name, i, j, x } => {
+                let a = distribution_of(script, line, name.bytes());
+                flip_code(self.modulus, script, line, name.bytes(), a, *i, *j, *x)
+            }
+            Command::Pverify { name } => pverify_code(distribution_of(script, line, name.bytes())),
             _ => None,
         }
     }
@@ -151,6 +164,11 @@ impl Counts {
                 spares: self.spares + 1,
                 ..self
             },
+            Command::Field { n } => Counts {
+                fields: self.fields + 1,
+                modulus: *n,
+                ..self
+            },
             Command::Order { numbers } => Counts {
                 ordered: self.ordered + numbers.len(),
                 ..self
@@ -175,7 +193,7 @@ impl Counts {
         ensures counted { IfOk result (λ counts. AreCounts counts line (commands_before script.now line ++ record { line = line; command = command.now } ∷ [])) }
         ensures broken { IfErr result (λ code. first_code (rules told (commands_before script.now line) line command.now) ≡ Some code) }
     {
-        if let Some(code) = routine_code(script, line, command) {
+        if let Some(code) = routine_code(self.modulus, script, line, command) {
             return Err(code);
         }
         match self.own_code(told, script, line, command) {

@@ -3,14 +3,16 @@
 #![tactic(auto)]
 
 mod counts;
-mod layouts;
+mod distributions;
+mod flips;
 mod routines;
 mod rules;
 mod runs;
 mod told;
 
 pub use counts::Counts;
-pub use layouts::{Layout, layout_of, layout_on};
+pub use distributions::{Distribution, distribution_of, distribution_on};
+pub use routines::is_option;
 pub use rules::{is_shape, maker_command, more_code, word_code, words_code};
 pub use runs::first_unrunnable;
 pub use told::{Told, told_by};

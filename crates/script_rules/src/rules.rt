@@ -3,12 +3,12 @@ ghost use Rattle.std.specs.Prelude.{◌≡◌, ◌+◌, ◌*◌, ◌≤◌, ◌<
 ghost use Rattle.std.specs.Option.{option_copied};
 ghost use Rattle.std.specs.List.{list_all};
 ghost use Rattle.run_data.specs.Script.{commands_of, is_grid_line, maker};
-ghost use Rattle.script_rules.specs.Rules.{maker_command, is_matrix_line, is_list_line, process_rows, process_columns, matrix_words, word_rules, words_code, is_number, more_rules, is_shape, grid_rules, matrix_rules, print_rules, list_rules, topology_rules, links_rules, is_order_number, order_rules, lose_rules, spares_rules};
+ghost use Rattle.script_rules.specs.Rules.{maker_command, is_matrix_line, is_list_line, process_rows, process_columns, matrix_words, word_rules, words_code, is_number, more_rules, is_shape, grid_rules, matrix_rules, print_rules, list_rules, topology_rules, links_rules, is_order_number, order_rules, lose_rules, spares_rules, field_rules, pverify_rules};
 ghost use Rattle.script_words.specs.Tables.{first_code};
 ghost use Rattle.blacs_grid.specs.Limits.{rank_limit};
 ghost use Rattle.script_words.specs.Limits.{matrix_limit, printed_limit, orders_limit};
 
-use crate::layouts::Layout;
+use crate::distributions::Distribution;
 use crate::routines::is_option;
 use array_desc::{MAX_BLOCK, MAX_SIZE};
 use blacs_grid::{MAX_CODE_COLUMNS, MAX_PROCESSES, MAX_RANKS};
@@ -233,14 +233,11 @@ pub fn print_code(printed: u64, words: u64) -> Option<i32>
     code_unless(printed + words <= MAX_PRINTED, 10)
 }
 
-/// The first broken rule of a new pivot list of a matrix, after so many live lists.
-pub fn list_code(live: u32, has_losses: bool, a: Layout) -> Option<i32>
-    ensures { result ≡ first_code (list_rules live has_losses a) }
+/// The first broken rule of a new pivot list, after so many live lists.
+pub fn list_code(live: u32) -> Option<i32>
+    ensures { result ≡ first_code (list_rules live) }
 {
-    if MAX_LIVE <= live {
-        return Some(10);
-    }
-    code_unless(!has_losses || a.f == 0, 17)
+    code_unless(live < MAX_LIVE, 10)
 }
 
 /// The first broken rule of a `topology` line.
@@ -302,4 +299,25 @@ pub fn spares_code(lines: u32, n: u32) -> Option<i32>
         return Some(8);
     }
     code_unless(lines == 0, 21)
+}
+
+/// The first broken rule of a `field` line after so many of them and so many `matrix` lines.
+pub fn field_code(lines: u32, matrices: u32, n: u32) -> Option<i32>
+    ensures code { result ≡ first_code (field_rules lines matrices n) }
+    ensures first { IfNone result (lines ≡ 0) }
+{
+    if n != 65537 && n != 65521 {
+        return Some(8);
+    }
+    if lines != 0 {
+        return Some(19);
+    }
+    code_unless(matrices == 0, 20)
+}
+
+/// The first broken rule of a `pverify` line of a matrix.
+pub fn pverify_code(a: Distribution) -> Option<i32>
+    ensures { result ≡ first_code (pverify_rules a) }
+{
+    code_unless(1 <= a.f, 22)
 }

@@ -18,12 +18,13 @@ fn can_run(command: &Command) -> bool
         Command::Order { .. } => true,
         Command::Lose { .. } => true,
         Command::Spares { .. } => true,
+        Command::Field { .. } => true,
         _ => false,
     }
 }
 
 /// The first line, counted from 1, that the ranks can't run so far: they run `grid`, `matrix`, `print`, `drop`, `topology`, `links`,
-/// `order`, `lose` and `spares` lines.
+/// `order`, `lose`, `spares` and `field` lines.
 pub fn first_unrunnable(script: &Script) -> Option<u32>
     ensures { result ≡ first_unrunnable (commands_of script.now) }
 {

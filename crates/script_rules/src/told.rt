@@ -1,18 +1,17 @@
 //! What a script tells as a whole, before its lines are read one after another.
 ghost use Rattle.std.specs.Prelude.{◌≡◌, ◌≤◌, length, IfOk};
 ghost use Rattle.script_words.specs.Lines.{word_lines};
-ghost use Rattle.script_rules.specs.Told.{shape_ranks, ranks_told, tells_loss, told_by};
+ghost use Rattle.script_rules.specs.Told.{shape_ranks, ranks_told, told_by};
 
 use crate::rules::is_shape;
 use run_data::Word;
 use script_words::{Stop, cut, is_word, line_words, number_of, skip_one};
 use std::alloc::{AllocError as NoMemory, Global};
 
-/// What a script tells as a whole: the ranks of all its grids, and whether it has a `lose` line.
+/// What a script tells as a whole: the ranks of all its grids.
 #[derive(Clone, Copy)]
 pub struct Told {
     pub ranks: u64,
-    pub has_losses: bool,
 }
 
 // The ranks of a grid of this shape, if it is in range.
@@ -44,33 +43,17 @@ fn ranks_told(words: &[Word]) -> u32
     )
 }
 
-// Whether a line's first word is `lose`.
-fn tells_loss(words: &[Word]) -> bool
-    ensures { result ≡ tells_loss words.now }
-{
-    match words {
-        [] => false,
-        [word, ..] => is_word(word.bytes(), b"lose"),
-    }
-}
-
 /// What the lines of a text tell as a script.
 pub fn told_by(alloc: Global, bytes: &[u8]) -> Result<Told, NoMemory>
     requires { length bytes.now ≤ 16777216 }
     ensures { IfOk result (λ t. t ≡ told_by (word_lines bytes.now)) }
 {
-    let mut all = Told {
-        ranks: 0,
-        has_losses: false,
-    };
+    let mut all = Told { ranks: 0 };
     let mut rest = bytes;
     while !rest.is_empty() {
         let (line, after) = cut(rest, Stop::LineFeed);
         let words = line_words(alloc, line)?;
         all.ranks += u64::from(ranks_told(&words));
-        if tells_loss(&words) {
-            all.has_losses = true;
-        }
         rest = skip_one(after);
     }
     Ok(all)

@@ -8,7 +8,8 @@ use Rattle.run_data.specs.Script.{Numbered, commands_of, command_at, grids_befor
 use Rattle.array_desc.specs.Descriptors.{desc_of, IsDesc}
 use Rattle.blacs_grid.specs.declared.Grid.{Grid}
 use Rattle.blacs_grid.specs.Limits.{rank_limit}
-use Rattle.rank_machine.specs.Setting.{Layout, sizes, no_grid, layout, is_matrix}
+use Rattle.rank_machine.specs.declared.layout.Layout.{Layout}
+use Rattle.rank_machine.specs.Setting.{sizes, no_grid, layout, is_matrix}
 use Rattle.rank_machine.specs.Scripts.{Matrices, grids_from, line_meant, layout_on, setting_of}
 use Rattle.script_bounds.specs.Accepted.{KeepsRules}
 use Rattle.script_bounds.proofs.Limits.{HasLimits, MatrixKept, matrix_kept}

@@ -5,7 +5,7 @@ use Rattle.std.proofs.lemmas.Bool.{false≢true}
 use Rattle.std.proofs.lemmas.List.Elements.{All-nil, All-cons}
 use Rattle.run_data.specs.declared.command.Command.{Command}
 use Rattle.run_data.specs.declared.command.Command.TheVariants as c
-use Rattle.run_data.specs.Script.{Numbered, commands_of, command_at}
+use Rattle.run_data.specs.Script.{Numbered, commands_of, command_at, modulus_of}
 use Rattle.rank_machine.specs.declared.record.Loss.{Loss}
 use Rattle.rank_machine.specs.Setting.{Setting, Job, ranks, sizes, job, is_matrix}
 use Rattle.rank_machine.specs.Scripts.{Matrices, capacity_after, capacity_from, grids_from, loss_made, losses_in, setting_of}
@@ -15,6 +15,7 @@ use Rattle.script_bounds.specs.Accepted.{KeepsRules}
 use Rattle.script_rules.specs.Runs.{first_unrunnable}
 use Rattle.script_bounds.proofs.Limits.{links_kept, lose_kept, run_kept}
 use Rattle.script_lines.proofs.JobAt.{job_for, job-in_script}
+use Rattle.script_laws.proofs.FieldLines.{accepted-large}
 use Rattle.script_recovery.proofs.GridsAt.{sizes-from}
 use Rattle.script_run.specs.Runnable.{IsRunnable}
 use Rattle.script_run.proofs.EachCommand.{AreThere, there-all, there-first, there-later}
@@ -45,6 +46,8 @@ no_scalars script files line runs =
         absurd (false≢true (run_kept script line (c.Pgemm transa transb m n k alpha a ia ja b ib jb beta x ic jc) runs e))
     by_command (Some (c.Ptrsm side uplo transa diag m n alpha a ia ja b ib jb)) e =
         absurd (false≢true (run_kept script line (c.Ptrsm side uplo transa diag m n alpha a ia ja b ib jb) runs e))
+    by_command (Some (c.Ptran m n alpha a ia ja beta x ic jc)) e =
+        absurd (false≢true (run_kept script line (c.Ptran m n alpha a ia ja beta x ic jc) runs e))
     by_command (Some command) e = refl
     by_command None e = refl
 
@@ -62,16 +65,18 @@ module _ (script : List (Option Command)) (h : KeepsRules script) where
   losses_within [] all = All-nil OfRun
   losses_within (n ∷ more) all = loss_before n.line n.command (losses_in more) (there-first (commands_of script) more n all) (losses_within more (there-later (commands_of script) more n all))
 
-pub accepted-sound : (script : List (Option Command)) (files : Matrices) → IsRunnable script files → IsSound 65537 (setting_of script files)
+pub accepted-sound : (script : List (Option Command)) (files : Matrices) → IsRunnable script files → IsSound (modulus_of (commands_of script)) (setting_of script files)
 accepted-sound script files h =
     let s : Setting = setting_of script files in
+    let p : ℕ = modulus_of (commands_of script) in
     let capacity : IsCapacity s.capacity = capacity_within script (commands_of script) 1 h.accepted.lines (there-all script) (omega arith, omega arith) in
     record {
       modulus = refl;
+      large = accepted-large script h.accepted.lines;
       grids = accepted-grids script h.accepted.lines;
       layouts = λ line made. accepted-layout script files line h.accepted.lines made;
       files = λ line made. (h.has_files line made).words;
-      scalars = λ line. subst (λ (l : List ℕ). All (λ a. a < 65537) l) (sym (no_scalars script files line h.runs)) (All-nil (λ a. a < 65537));
+      scalars = λ line. subst (λ (l : List ℕ). All (λ a. a < p) l) (sym (no_scalars script files line h.runs)) (All-nil (λ a. a < p));
       of_ranks = losses_within script h.accepted.lines (commands_of script) (there-all script);
       some_messages = capacity.0;
       messages = capacity.1;

@@ -5,7 +5,7 @@ use Rattle.std.proofs.lemmas.Bool.{false≢true, cases_Bool, eqb-true}
 use Rattle.std.proofs.lemmas.Option.{same_Some}
 use Rattle.run_data.specs.declared.command.Command.{Command}
 use Rattle.run_data.specs.declared.command.Command.TheVariants as c
-use Rattle.run_data.specs.Script.{Numbered, commands_of, command_at}
+use Rattle.run_data.specs.Script.{Numbered, commands_of, command_at, modulus_of}
 use Rattle.rank_machine.specs.Scripts.{Matrices, setting_of}
 use Rattle.script_bounds.specs.Bounds.{steps_in, records_in, greatest, phase_steps, recovery_steps}
 use Rattle.script_bounds.proofs.Limits.{run_kept}
@@ -40,6 +40,7 @@ one_phase cs line (c.Discard name) can = refl
 one_phase cs line (c.Links n) can = refl
 one_phase cs line (c.Order numbers) can = refl
 one_phase cs line (c.Spares n) can = refl
+one_phase cs line (c.Field n) can = refl
 one_phase cs line (c.Topology kind) can = refl
 one_phase cs line (c.Lose at rank) can = refl
 one_phase cs line x can = absurd (false≢true can)
@@ -65,7 +66,7 @@ few-in-phase script files line most x h e few =
 -- ---- the world of a run is one that can be mended
 pub world-mendable : (script : List (Option Command)) (files : Matrices) (done : ℕ) (w : WorldView) (out : List ℕ) → IsRunnable script files → HasRun script files done w out → IsMendable (setting_in w)
 world-mendable script files done w out h before =
-    subst (λ s. IsMendable s) (sym (setting_is w script files before.script_is before.files_are)) (accepted-mendable script files 65537 h.accepted.lines (accepted-sound script files h))
+    subst (λ s. IsMendable s) (sym (setting_is w script files before.script_is before.files_are)) (accepted-mendable script files (modulus_of (commands_of script)) h.accepted.lines (accepted-sound script files h))
 
 -- ---- what `drive` did
 module _ (script : List (Option Command)) (files : Matrices) (done : ℕ) (plan : Plan) (progress : Progress) (old new : WorldView) (out : List ℕ)
@@ -82,13 +83,13 @@ module _ (script : List (Option Command)) (files : Matrices) (done : ℕ) (plan 
   was_driven : IsDriven plan progress old new → Costs d.Done → RecoversInTime old new → KeepsGoing old new → ((most : ℕ) → plan.most_records ≤ most → KeepsShort most old new) → HoldsDriven old new
       → HasDriven script plan progress old new
   was_driven driven costs in_time goes short holds =
-      let sound : IsSound 65537 (setting_of script files) = accepted-sound script files h in
+      let sound : IsSound (modulus_of (commands_of script)) (setting_of script files) = accepted-sound script files h in
       record {
         driven = driven;
         goes = goes;
         short = short (phase_steps (commands_of script)) few;
         heals = in_time (recovery_steps (commands_of script)) recovery;
-        held = holds (after-measured script files 65537 (suc done) old new plan progress h.accepted.lines sound before.script_is before.files_are (omega arith) line.mark driven) (before-measured script files 65537 done old out h.accepted.lines sound before);
+        held = holds (after-measured script files (modulus_of (commands_of script)) (suc done) old new plan progress h.accepted.lines sound before.script_is before.files_are (omega arith) line.mark driven) (before-measured script files (modulus_of (commands_of script)) done old out h.accepted.lines sound before);
         costs = costs (phase_steps (commands_of script)) (recovery_steps (commands_of script)) few recovery;
       }
 
@@ -96,7 +97,7 @@ module _ (script : List (Option Command)) (files : Matrices) (done : ℕ) (plan 
       → IsStopped script files done new out drove
   was_cut drove cut costs in_time goes short holds =
       drive-stopped script files done 0 old new out drove plan h.accepted.lines (inside script files done old out before) running few cut costs in_time goes short
-      (holds (before-measured script files 65537 done old out h.accepted.lines (accepted-sound script files h) before))
+      (holds (before-measured script files (modulus_of (commands_of script)) done old out h.accepted.lines (accepted-sound script files h) before))
 
   -- with all its clauses
   pub line-driven : {E : Type 0} (result : Result Drove E) → IfOk result (IfDrove (IsDriven plan progress old new) (IsCutAt old new)) → IfOk result Costs → OnOk result (RecoversInTime old new) → OnOk result (KeepsGoing old new)

@@ -4,7 +4,7 @@ use Rattle.std.specs.Prelude.{IfOk}
 use Rattle.std.proofs.lemmas.List.{append-nil}
 use Rattle.run_data.specs.declared.command.Command.{Command}
 use Rattle.run_data.specs.declared.command.Command.TheVariants as c
-use Rattle.run_data.specs.Script.{commands_of, command_at}
+use Rattle.run_data.specs.Script.{commands_of, command_at, modulus_of}
 use Rattle.rank_machine.specs.declared.mark.Mark.{Mark}
 use Rattle.rank_machine.specs.Scripts.{Matrices, setting_of}
 use Rattle.rank_machine.specs.State.{end_mark}
@@ -37,7 +37,7 @@ module _ (script : List (Option Command)) (files : Matrices) (done : ℕ) (w : W
   dropped = dropped-name (command_at (commands_of script) (suc done)) line
 
   scripted : IsScripted (setting_of script files)
-  scripted = IsScripted-sound 65537 (setting_of script files) (accepted-sound script files h) (no-line_zero script files)
+  scripted = IsScripted-sound (modulus_of (commands_of script)) (setting_of script files) (accepted-sound script files h) (no-line_zero script files)
 
   pub drop-whole : IsWholeLine script done (end_plan mark) w
   drop-whole =

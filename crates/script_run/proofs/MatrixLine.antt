@@ -8,7 +8,7 @@ use Rattle.field_core.specs.Residue.{inverse}
 use Rattle.run_data.specs.Matrix.{Matrix}
 use Rattle.run_data.specs.declared.command.Command.{Command}
 use Rattle.run_data.specs.declared.command.Command.TheVariants as c
-use Rattle.run_data.specs.Script.{commands_of, command_at}
+use Rattle.run_data.specs.Script.{commands_of, command_at, modulus_of}
 use Rattle.rank_machine.specs.Setting.{Job, layout}
 use Rattle.rank_machine.specs.Scripts.{Matrices, file_of, setting_of}
 use Rattle.script_bounds.specs.Bounds.{records_in}
@@ -104,10 +104,11 @@ module _ (script : List (Option Command)) (files : Matrices) (done : ℕ) (w : W
       ∙ ((λ i. record { file = is i; layout = layout (site.setting_in (at i)) next; line = next; calls = 0 })
       ∙ (λ i. record { file = file_of files (here i); layout = layout (setting_in w) (here i); line = here i; calls = 0 }))
 
-  module _ (x : FeedView) (is : x ≡ told) where
-    pub matrix-whole : IsWholeLine script done (feed_plan (feed_task (inverse 65537) x.file x.layout x.line)) w
+  module _ (x : FeedView) (is : x ≡ told) (p : ℕ) (field : p ≡ modulus_of (commands_of script)) where
+    pub matrix-whole : IsWholeLine script done (feed_plan (feed_task (inverse p) x.file x.layout x.line)) w
     matrix-whole =
-        subst (λ (v : FeedView). IsWholeLine script done (feed_plan (feed_task (inverse 65537) v.file v.layout v.line)) w) (sym is)
+        subst (λ q. IsWholeLine script done (feed_plan (feed_task (inverse q) x.file x.layout x.line)) w) (sym field)
+        (subst (λ (v : FeedView). IsWholeLine script done (feed_plan (feed_task (inverse (modulus_of (commands_of script))) v.file v.layout v.line)) w) (sym is)
         (record {
           command = command;
           there = words.there;
@@ -115,15 +116,17 @@ module _ (script : List (Option Command)) (files : Matrices) (done : ℕ) (w : W
           mark = refl;
           few = subst (λ s. feed_records (layout s (suc done)) ≤ records_in (commands_of script) (suc done) command) (sym same)
               (feeds-few script files (suc done) words.name words.grid words.m words.n words.mb words.nb words.rsrc words.csrc words.file h.accepted.lines words.there);
-        })
+        }))
 
     abbrev Drives : Progress → WorldView → Type 0
-    Drives progress new = HasDriven script (feed_plan (feed_task (inverse 65537) x.file x.layout x.line)) progress w new
+    Drives progress new = HasDriven script (feed_plan (feed_task (inverse p) x.file x.layout x.line)) progress w new
 
     ran : (progress : Progress) (new : WorldView) → Drives progress new → HasRun script files (suc done) new out
     ran progress new way =
-        let k : HasDriven script (feed_plan (feed_task (inverse 65537) (file_of files (suc done)) (layout (setting_in w) (suc done)) (suc done))) progress w new =
-        subst (λ (v : FeedView). HasDriven script (feed_plan (feed_task (inverse 65537) v.file v.layout v.line)) progress w new) is way in
+        let own : HasDriven script (feed_plan (feed_task (inverse (modulus_of (commands_of script))) x.file x.layout x.line)) progress w new =
+        subst (λ q. HasDriven script (feed_plan (feed_task (inverse q) x.file x.layout x.line)) progress w new) field way in
+        let k : HasDriven script (feed_plan (feed_task (inverse (modulus_of (commands_of script))) (file_of files (suc done)) (layout (setting_in w) (suc done)) (suc done))) progress w new =
+        subst (λ (v : FeedView). HasDriven script (feed_plan (feed_task (inverse (modulus_of (commands_of script))) v.file v.layout v.line)) progress w new) is own in
         subst (λ text. HasRun script files (suc done) new text) (append-nil out)
         (line-ends script files done w new out command [] before
         (matrix-ends script files done w new out progress words.name words.grid words.m words.n words.mb words.nb words.rsrc words.csrc words.file before h.accepted.lines (accepted-sound script files h) words.there own_file.shaped shape

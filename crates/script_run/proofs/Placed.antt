@@ -14,7 +14,8 @@ use Rattle.rank_machine.specs.declared.slot.Slot.{Slot}
 use Rattle.rank_machine.specs.declared.slot.SlotKind.TheVariants.{Data}
 use Rattle.rank_machine.specs.declared.slot.Tile.{Tile}
 use Rattle.rank_machine.specs.declared.slot.Tile.TheVariants.{Words, Index}
-use Rattle.rank_machine.specs.Setting.{Layout, strip_of}
+use Rattle.rank_machine.specs.declared.layout.Layout.{Layout}
+use Rattle.rank_machine.specs.Setting.{strip_of}
 use Rattle.rank_machine.specs.CodeLaw.{slot_at}
 use Rattle.dist_matrix.specs.Strips.{HasShape, with_strip, with_strips, HasEveryStrip}
 use Rattle.dist_matrix.proofs.StripLaws.{HasStripShape-strip_of, HasShape-with_strip, with_strips-every}

@@ -11,10 +11,11 @@ use Rattle.blacs_grid.proofs.ScopeLaws.{is_in_scope-member}
 use Rattle.run_data.specs.Matrix.{Matrix}
 use Rattle.run_data.specs.declared.command.Command.{Command}
 use Rattle.run_data.specs.declared.command.Command.TheVariants as c
-use Rattle.run_data.specs.Script.{commands_of, command_at}
+use Rattle.run_data.specs.Script.{commands_of, command_at, modulus_of}
 use Rattle.rank_machine.specs.declared.slot.Slot.{Slot}
 use Rattle.rank_machine.specs.declared.slot.Tile.TheVariants.{Words}
-use Rattle.rank_machine.specs.Setting.{Layout, layout, strip_of, is_job}
+use Rattle.rank_machine.specs.declared.layout.Layout.{Layout}
+use Rattle.rank_machine.specs.Setting.{layout, strip_of, is_job}
 use Rattle.rank_machine.specs.Scripts.{Matrices, file_of, line_meant, setting_of}
 use Rattle.rank_machine.specs.State.{State, Took, end_mark}
 use Rattle.rank_machine.specs.Effect.{is_live_matrix}
@@ -71,7 +72,7 @@ module _ (script : List (Option Command)) (files : Matrices) (line : ℕ) (name 
   kept : KeepsRules script
   kept = ready.accepted.lines
 
-  sound : IsSound 65537 (setting_of script files)
+  sound : IsSound (modulus_of (commands_of script)) (setting_of script files)
   sound = accepted-sound script files ready
 
   same : setting_in w ≡ setting_of script files

@@ -21,6 +21,11 @@ numbers_made (c.Topology kind) = []
 numbers_made (c.Links n) = []
 numbers_made (c.Lose at rank) = []
 numbers_made (c.Spares n) = []
+numbers_made (c.Field n) = []
+numbers_made (c.Ptran m n alpha a ia ja beta x ic jc) = []
+numbers_made (c.Pgetri n a ia ja v b ib jb) = []
+numbers_made (c.Flip name i j x) = []
+numbers_made (c.Pverify name) = []
 
 -- several such lines are joined
 abbrev pub numbers_in : List Numbered → List ℕ

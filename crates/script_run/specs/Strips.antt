@@ -4,7 +4,8 @@ use Rattle.run_data.specs.Matrix.{Matrix, IsShaped}
 use Rattle.rank_machine.specs.declared.slot.Slot.{Slot}
 use Rattle.rank_machine.specs.declared.slot.Tile.{Tile}
 use Rattle.rank_machine.specs.declared.slot.Tile.TheVariants.{Words, Index}
-use Rattle.rank_machine.specs.Setting.{Layout, strip_of}
+use Rattle.rank_machine.specs.declared.layout.Layout.{Layout}
+use Rattle.rank_machine.specs.Setting.{strip_of}
 use Rattle.dist_matrix.specs.Strips.{HasShape, HasStripShape, NamesStrip, with_strip}
 use Rattle.line_phases.specs.Printing.{strip_slots}
 use Rattle.plain_phases.specs.declared.taking.Got.{Got}

@@ -1,7 +1,7 @@
 //! The lines of a script, each driven over losses.
 ghost use Rattle.std.specs.Prelude.{◌≡◌, ◌+◌, ◌++◌, ℕ, Some, IfOk, OnOk};
 ghost use Rattle.std.specs.Str.{IsUtf8};
-ghost use Rattle.run_data.specs.Script.{commands_of, command_at};
+ghost use Rattle.run_data.specs.Script.{commands_of, command_at, modulus_of};
 ghost use Rattle.run_data.specs.declared.command.Command.TheVariants as c;
 ghost use Rattle.serial_model.specs.Text.{matrix_text};
 ghost use Rattle.world_heal.specs.Outcomes.{IfDrove};
@@ -15,7 +15,7 @@ use crate::printing::{slots_of, whole_of};
 use block_world::{Mark, Mat, Order, World};
 use dist_matrix::Site;
 use feed_phase::FeedPhase;
-use field_core::F65537;
+use field_core::Field;
 use loss_recovery::{Drove, drive};
 use phases::Phase;
 use plain_phases::{EndPhase, TakePhase};
@@ -24,9 +24,9 @@ use run_data::{Command, Files, Script};
 use std::alloc::{AllocError as NoMemory, Global};
 
 // Drives the phase that is the whole of the next line; `_out` is what was printed so far.
-fn drive_line<H: Phase<F65537>>(
+fn drive_line<K: Field, H: Phase<K>>(
     alloc: Global,
-    world: &mut World<'_, F65537>,
+    world: &mut World<'_, K>,
     site: &mut Site<'_>,
     script: &Script,
     order: &mut Order,
@@ -47,9 +47,9 @@ fn drive_line<H: Phase<F65537>>(
 }
 
 // A `matrix` line.
-fn run_matrix(
+fn run_matrix<K: Field>(
     alloc: Global,
-    world: &mut World<'_, F65537>,
+    world: &mut World<'_, K>,
     site: &mut Site<'_>,
     script: &Script,
     files: &Files,
@@ -57,6 +57,7 @@ fn run_matrix(
     done: u32,
     out: &[u8],
 ) -> Result<Drove, NoMemory>
+    requires field { K.MODULUS ≡ modulus_of (commands_of script.now) }
     requires runnable { IsRunnable script.now files.now }
     requires before { HasRun script.now files.now done world.old out.now }
     requires line { MakesMatrix (command_at (commands_of script.now) (done + 1)) }
@@ -84,9 +85,9 @@ fn add_text(alloc: Global, name: &[u8], m: &Mat, out: &mut Vec<u8>) -> Result<()
 }
 
 // A `print` line of a name.
-fn run_print(
+fn run_print<K: Field>(
     alloc: Global,
-    world: &mut World<'_, F65537>,
+    world: &mut World<'_, K>,
     site: &mut Site<'_>,
     script: &Script,
     order: &mut Order,
@@ -115,9 +116,9 @@ fn run_print(
 }
 
 // A `drop` line.
-fn run_drop(
+fn run_drop<K: Field>(
     alloc: Global,
-    world: &mut World<'_, F65537>,
+    world: &mut World<'_, K>,
     site: &mut Site<'_>,
     script: &Script,
     order: &mut Order,
@@ -138,11 +139,11 @@ fn run_drop(
 /// Runs the command of the next line, where so many are done.
 ///
 /// Done: the line has run, and what it prints was added. Beyond and NoSpare: the run was cut short in it, and nothing was added.
-/// `grid`, `links`, `spares`, `order`, `topology` and `lose` lines do nothing here: a World opens with all grids and losses, and no
-/// command broadcasts.
-pub fn run_line(
+/// `grid`, `field`, `links`, `spares`, `order`, `topology` and `lose` lines do nothing here: a World opens with all grids and losses, in
+/// the field of the script, and no command broadcasts.
+pub fn run_line<K: Field>(
     alloc: Global,
-    world: &mut World<'_, F65537>,
+    world: &mut World<'_, K>,
     site: &mut Site<'_>,
     script: &Script,
     files: &Files,
@@ -151,6 +152,7 @@ pub fn run_line(
     command: &Command,
     out: &mut Vec<u8>,
 ) -> Result<Drove, NoMemory>
+    requires field { K.MODULUS ≡ modulus_of (commands_of script.now) }
     requires runnable { IsRunnable script.now files.now }
     requires before { HasRun script.now files.now done world.old out.old.items }
     requires line { command_at (commands_of script.now) (done + 1) ≡ Some command.now }
@@ -165,6 +167,7 @@ pub fn run_line(
         }
         Command::Discard { .. } => run_drop(alloc, world, site, script, order, done, out),
         Command::Grid { .. }
+        | Command::Field { .. }
         | Command::Links { .. }
         | Command::Spares { .. }
         | Command::Order { .. }

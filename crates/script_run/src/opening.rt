@@ -1,6 +1,6 @@
 //! The world in which a script is run.
 ghost use Rattle.std.specs.Prelude.{◌≡◌, ◌++◌, IfOk, OnOk};
-ghost use Rattle.run_data.specs.Script.{commands_of};
+ghost use Rattle.run_data.specs.Script.{commands_of, modulus_of};
 ghost use Rattle.rank_machine.specs.Scripts.{losses_in, loss_made};
 ghost use Rattle.script_bounds.specs.Bounds.{bound};
 ghost use Rattle.whole_run.proofs.Opening.{fresh_world};
@@ -8,7 +8,7 @@ ghost use Rattle.script_run.specs.Runnable.{IsRunnable};
 ghost use Rattle.script_run.specs.Orders.{numbers_made, numbers_in};
 
 use block_world::{Loss, Order, World};
-use field_core::F65537;
+use field_core::Field;
 use run_data::{Command, Files, IndexList, Script};
 use script_bounds::bound;
 use std::alloc::{AllocError as NoMemory, Global};
@@ -74,13 +74,14 @@ pub fn order_of(alloc: Global, script: &Script) -> Result<Order, NoMemory>
     Ok(order)
 }
 
-/// A world of a script in which nothing has happened yet. It has room for as many records as the script's bound says.
-pub fn open_world<'a>(
+/// A world of a script in which nothing has happened yet, in the script's field. It has room for as many records as the script's bound says.
+pub fn open_world<'a, K: Field>(
     alloc: Global,
     script: &'a Script,
     files: &'a Files,
-) -> Result<World<'a, F65537>, NoMemory>
-    requires { IsRunnable script.now files.now }
+) -> Result<World<'a, K>, NoMemory>
+    requires field { K.MODULUS ≡ modulus_of (commands_of script.now) }
+    requires runnable { IsRunnable script.now files.now }
     ensures { IfOk result (λ w. w ≡ fresh_world script.now files.now (bound (commands_of script.now))) }
 {
     let losses = losses_of(alloc, script)?;

@@ -1,6 +1,6 @@
 //! The run of a whole script.
 ghost use Rattle.std.specs.Prelude.{◌≡◌, ℕ, [], length, IfOk, OnOk};
-ghost use Rattle.run_data.specs.Script.{commands_of};
+ghost use Rattle.run_data.specs.Script.{commands_of, modulus_of};
 ghost use Rattle.rank_machine.specs.State.{first_mark};
 ghost use Rattle.script_bounds.specs.Bounds.{bound};
 ghost use Rattle.block_world.specs.World.{setting_in};
@@ -15,7 +15,7 @@ use crate::lines::run_line;
 use crate::opening::{open_world, order_of};
 use block_world::{Order, World};
 use dist_matrix::Site;
-use field_core::F65537;
+use field_core::Field;
 use journal_text::journal_text;
 use loss_recovery::Drove;
 use run_data::{Files, Script};
@@ -30,15 +30,16 @@ pub struct Ran {
 }
 
 // The lines of a script, one after another, in a world that was opened for it, with room for all records.
-fn run_lines(
+fn run_lines<K: Field>(
     alloc: Global,
-    world: &mut World<'_, F65537>,
+    world: &mut World<'_, K>,
     site: &mut Site<'_>,
     script: &Script,
     files: &Files,
     order: &mut Order,
     out: &mut Vec<u8>,
 ) -> Result<Drove, NoMemory>
+    requires field { K.MODULUS ≡ modulus_of (commands_of script.now) }
     requires runnable { IsRunnable script.now files.now }
     requires before { HasRun script.now files.now 0 world.old out.old.items }
     requires room { world.old.room ≡ bound (commands_of script.now) }
@@ -57,17 +58,18 @@ fn run_lines(
     Ok(Drove::Done)
 }
 
-/// Runs a script on the ranks, over the losses that it says.
+/// Runs a script on the ranks, over the losses that it says, in the field K, which is that of the script.
 ///
 /// The run goes to its end, or it is cut short where losses fall that it cannot survive: Beyond, a process row of a grid that holds
 /// something lost more ranks than it has code columns, or NoSpare, a lost rank got no spare. The printed text is that of the serial
 /// run, or of its lines that had ended; the journal is that of a legal run. It fails only where memory runs out.
-pub fn run(alloc: Global, script: &Script, files: &Files) -> Result<Ran, NoMemory>
-    requires { IsRunnable script.now files.now }
+pub fn run<K: Field>(alloc: Global, script: &Script, files: &Files) -> Result<Ran, NoMemory>
+    requires field { K.MODULUS ≡ modulus_of (commands_of script.now) }
+    requires runnable { IsRunnable script.now files.now }
     ensures run { IfOk result (λ r. IsRunOf script.now files.now (ending_at r.ending) r.out.items r.journal.items) }
     ensures complete { IfOk result (λ r. Completes script.now files.now (ending_at r.ending)) }
 {
-    let mut world = open_world(alloc, script, files)?;
+    let mut world = open_world::<K>(alloc, script, files)?;
     let mut site = Site::new(alloc, script)?;
     let mut order = order_of(alloc, script)?;
     let mut out = Vec::new(alloc);

@@ -1,10 +1,10 @@
 -- No rule of a text has code 12.
 use Rattle.std.proofs.Common.{◌≡◌, ℕ, suc, Bool, true, false, cond, ◌&&◌, List, [], ◌∷◌, ◌++◌, length, Option, Some, None, Result, Ok, Err, refl, sym, ap, subst, ◌∙◌}
-use Rattle.std.specs.Prelude.{ℤ, pos, negsuc, not, ◌==◌, ◌≢◌, nat_lt, nat_le}
+use Rattle.std.specs.Prelude.{ℤ, pos, negsuc, not, codes, if◌then◌else◌, ◌==◌, ◌≢◌, nat_lt, nat_le}
 use Rattle.std.specs.Option.{option_or}
 use Rattle.std.proofs.lemmas.Bool.{and_parts, and_from}
 use Rattle.run_data.specs.Matrix.{Matrix, tabulate}
-use Rattle.run_data.specs.Script.{Numbered, commands_of}
+use Rattle.run_data.specs.Script.{Numbered, commands_of, modulus_of}
 use Rattle.run_data.specs.declared.command.Command.{Command}
 use Rattle.run_data.specs.declared.command.Command.TheVariants as c
 use Rattle.script_words.specs.declared.fault.Refused.{Refused}
@@ -17,7 +17,10 @@ use Rattle.script_words.specs.Lines.{has_items}
 use Rattle.script_words.specs.Kinds.{command_word, kinds_of, takes_more, has_count}
 use Rattle.script_bounds.specs.Bounds.{bound}
 use Rattle.script_words.specs.Tables.{first_code}
-use Rattle.script_rules.specs.Rules.{word_rules, words_code, more_rules, pgemm_line, ptrsm_line, pgetrf_line, pgetrs_line, pgemr2d_line, routine_rules, own_rules, rules}
+use Rattle.script_rules.specs.Rules.{word_rules, words_code, more_rules, distribution_of, pgemm_line, ptrsm_line, pgetrf_line, pgetrs_line, pgemr2d_line, ptran_line, pgetri_line, routine_rules, own_rules, rules}
+use Rattle.std.specs.Str.{bytes_eq}
+use Rattle.script_rules.specs.declared.distributions.Distribution.{Distribution}
+use Rattle.script_rules.specs.Routines.{is_option, left_rules, right_rules}
 use Rattle.script_rules.specs.Told.{told_by}
 use Rattle.script_words.specs.Commands.{command_of}
 use Rattle.script_text.specs.Script.{refused, command_code, form_code_of, form_code, rule_code, line_code, answer_by, line_answer, and_then, script_after, bounded, script_of}
@@ -72,13 +75,26 @@ others-append : (xs ys : List (ℤ × Bool)) → are_others xs ≡ true → are_
 others-append [] ys h k = k
 others-append (x ∷ xs) ys h k = (let parts = and_parts (is_other (Some x.0)) (are_others xs) h in and_from (is_other (Some x.0)) (are_others (xs ++ ys)) parts.0 (others-append xs ys parts.1 k))
 
-pgemm_other : (cs : List Numbered) (line : ℕ) (command : Command) → are_others (pgemm_line cs line command) ≡ true
-pgemm_other cs line (c.Pgemm transa transb m n k alpha a ia ja b ib jb beta x ic jc) = refl
-pgemm_other cs line command = refl
+pgemm_other : (p : ℕ) (cs : List Numbered) (line : ℕ) (command : Command) → are_others (pgemm_line p cs line command) ≡ true
+pgemm_other p cs line (c.Pgemm transa transb m n k alpha a ia ja b ib jb beta x ic jc) = refl
+pgemm_other p cs line command = refl
 
-ptrsm_other : (cs : List Numbered) (line : ℕ) (command : Command) → are_others (ptrsm_line cs line command) ≡ true
-ptrsm_other cs line (c.Ptrsm side uplo transa diag m n alpha a ia ja b ib jb) = refl
-ptrsm_other cs line command = refl
+ptrsm_other : (p : ℕ) (cs : List Numbered) (line : ℕ) (command : Command) → are_others (ptrsm_line p cs line command) ≡ true
+ptrsm_other p cs line (c.Ptrsm side uplo transa diag m n alpha a ia ja b ib jb) =
+    side_other (is_option (codes "L") (codes "l") side) p m n alpha ia ja (not (bytes_eq b a)) ib jb (distribution_of cs line a) (distribution_of cs line b)
+  where
+    side_other : (left : Bool) (p m n alpha ia ja : ℕ) (apart : Bool) (ib jb : ℕ) (a b : Distribution) → are_others (if left then left_rules p m n alpha ia ja apart ib jb a b else right_rules p m n alpha ia ja apart ib jb a b) ≡ true
+    side_other true p m n alpha ia ja apart ib jb a b = refl
+    side_other false p m n alpha ia ja apart ib jb a b = refl
+ptrsm_other p cs line command = refl
+
+ptran_other : (p : ℕ) (cs : List Numbered) (line : ℕ) (command : Command) → are_others (ptran_line p cs line command) ≡ true
+ptran_other p cs line (c.Ptran m n alpha a ia ja beta x ic jc) = refl
+ptran_other p cs line command = refl
+
+pgetri_other : (cs : List Numbered) (line : ℕ) (command : Command) → are_others (pgetri_line cs line command) ≡ true
+pgetri_other cs line (c.Pgetri n a ia ja v b ib jb) = refl
+pgetri_other cs line command = refl
 
 pgetrf_other : (cs : List Numbered) (line : ℕ) (command : Command) → are_others (pgetrf_line cs line command) ≡ true
 pgetrf_other cs line (c.Pgetrf m n a ia ja v) = refl
@@ -92,15 +108,20 @@ pgemr2d_other : (cs : List Numbered) (line : ℕ) (command : Command) → are_ot
 pgemr2d_other cs line (c.Pgemr2d m n a ia ja b ib jb ctxt) = refl
 pgemr2d_other cs line command = refl
 
-routines_other : (cs : List Numbered) (line : ℕ) (command : Command) → are_others (routine_rules cs line command) ≡ true
-routines_other cs line command =
-    let one = pgemm_line cs line command in
-    let two = ptrsm_line cs line command in
+routines_other : (p : ℕ) (cs : List Numbered) (line : ℕ) (command : Command) → are_others (routine_rules p cs line command) ≡ true
+routines_other p cs line command =
+    let one = pgemm_line p cs line command in
+    let two = ptrsm_line p cs line command in
     let three = pgetrf_line cs line command in
     let four = pgetrs_line cs line command in
-    others-append (one ++ two ++ three ++ four) (pgemr2d_line cs line command)
-    (others-append (one ++ two ++ three) four (others-append (one ++ two) three (others-append one two (pgemm_other cs line command) (ptrsm_other cs line command)) (pgetrf_other cs line command)) (pgetrs_other cs line command))
-    (pgemr2d_other cs line command)
+    let five = pgemr2d_line cs line command in
+    let six = ptran_line p cs line command in
+    let seven = pgetri_line cs line command in
+    others-append (one ++ two ++ three ++ four ++ five ++ six) seven
+    (others-append (one ++ two ++ three ++ four ++ five) six
+    (others-append (one ++ two ++ three ++ four) five
+    (others-append (one ++ two ++ three) four (others-append (one ++ two) three (others-append one two (pgemm_other p cs line command) (ptrsm_other p cs line command)) (pgetrf_other cs line command)) (pgetrs_other cs line command))
+    (pgemr2d_other cs line command)) (ptran_other p cs line command)) (pgetri_other cs line command)
 
 own_other : (told : Told) (cs : List Numbered) (line : ℕ) (command : Command) → are_others (own_rules told cs line command) ≡ true
 own_other told cs line (c.Grid name p q f) = refl
@@ -112,10 +133,13 @@ own_other told cs line (c.Links n) = refl
 own_other told cs line (c.Order numbers) = refl
 own_other told cs line (c.Lose at rank) = refl
 own_other told cs line (c.Spares n) = refl
+own_other told cs line (c.Field n) = refl
+own_other told cs line (c.Flip name i j x) = refl
+own_other told cs line (c.Pverify name) = refl
 own_other told cs line command = refl
 
 rules_other : (told : Told) (cs : List Numbered) (line : ℕ) (command : Command) → are_others (rules told cs line command) ≡ true
-rules_other told cs line command = others-append (routine_rules cs line command) (own_rules told cs line command) (routines_other cs line command) (own_other told cs line command)
+rules_other told cs line command = others-append (routine_rules (modulus_of cs) cs line command) (own_rules told cs line command) (routines_other (modulus_of cs) cs line command) (own_other told cs line command)
 
 command_other : (script : List (Option Command)) (o : Option CommandWord) (others : List (List ℕ)) → is_other (command_code script o others) ≡ true
 command_other script None others = refl
@@ -194,17 +218,17 @@ row_other : (file line : ℕ) (o : Option ℤ) (rest : Option Refused) → is_ot
 row_other file line None rest h k = k
 row_other file line (Some code) rest h k = h
 
-rows_other : (file m n i line : ℕ) (lines : List (List (List ℕ))) → is_other_refusal (refused_after file m n i line lines) ≡ true
-rows_other file m n i line [] = test_other (nat_lt i m) (Some (too_few file)) None refl refl
-rows_other file m n i line (words ∷ lines) =
-    test_other (has_items words) (by_code file line (first_code (row_rules m n i words)) (refused_after file m n (suc i) (suc line) lines)) (refused_after file m n i (suc line) lines)
-    (row_other file line (first_code (row_rules m n i words)) (refused_after file m n (suc i) (suc line) lines) (first_other (row_rules m n i words) refl) (rows_other file m n (suc i) (suc line) lines))
-    (rows_other file m n i (suc line) lines)
+rows_other : (p file m n i line : ℕ) (lines : List (List (List ℕ))) → is_other_refusal (refused_after p file m n i line lines) ≡ true
+rows_other p file m n i line [] = test_other (nat_lt i m) (Some (too_few file)) None refl refl
+rows_other p file m n i line (words ∷ lines) =
+    test_other (has_items words) (by_code file line (first_code (row_rules p m n i words)) (refused_after p file m n (suc i) (suc line) lines)) (refused_after p file m n i (suc line) lines)
+    (row_other file line (first_code (row_rules p m n i words)) (refused_after p file m n (suc i) (suc line) lines) (first_other (row_rules p m n i words) refl) (rows_other p file m n (suc i) (suc line) lines))
+    (rows_other p file m n i (suc line) lines)
 
 matrix_refused : (o : Option Refused) (a : Matrix) (r : Refused) → is_other_refusal o ≡ true → matrix_or o a ≡ Err r → is_other (Some r.code) ≡ true
 matrix_refused None a r h e = absurd cc
 matrix_refused (Some x) a r h e = let q : x ≡ r = cc in subst (λ (y : Refused). is_other (Some y.code) ≡ true) q h
 
-pub code_of_matrix : (bytes : List ℕ) (file m n : ℕ) (r : Refused) → matrix_of bytes file m n ≡ Err r → r.code ≢ pos 12
+pub code_of_matrix : (p : ℕ) (bytes : List ℕ) (file m n : ℕ) (r : Refused) → matrix_of p bytes file m n ≡ Err r → r.code ≢ pos 12
 unfolding matrix_of
-code_of_matrix bytes file m n r e = not_twelve r.code (matrix_refused (refused_after file m n 0 1 (word_lines bytes)) (tabulate m n (number_in (rows_of bytes))) r (rows_other file m n 0 1 (word_lines bytes)) e)
+code_of_matrix p bytes file m n r e = not_twelve r.code (matrix_refused (refused_after p file m n 0 1 (word_lines bytes)) (tabulate m n (number_in p (rows_of bytes))) r (rows_other p file m n 0 1 (word_lines bytes)) e)

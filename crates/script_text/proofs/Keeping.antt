@@ -21,7 +21,7 @@ use Rattle.script_words.specs.Numbers.{number_of}
 use Rattle.script_words.specs.Kinds.{command_word, kinds_of, takes_more, has_count}
 use Rattle.script_words.specs.Tables.{first_code}
 use Rattle.script_rules.specs.Rules.{word_rules, words_code, is_number, more_rules, rules}
-use Rattle.script_words.specs.Commands.{◌>>=◌, word_at, number_at, grid_of, matrix_of, pgemm_of, ptrsm_of, pgetrf_of, pgetrs_of, pgemr2d_of, links_of, numbers_of, order_of, lose_of, spares_line_of, command_as, command_of}
+use Rattle.script_words.specs.Commands.{◌>>=◌, word_at, number_at, grid_of, matrix_of, pgemm_of, ptrsm_of, pgetrf_of, pgetrs_of, pgemr2d_of, links_of, numbers_of, order_of, lose_of, spares_line_of, field_of, ptran_of, pgetri_of, flip_of, command_as, command_of}
 use Rattle.script_text.specs.Script.{refused, command_code, form_code_of, form_code, rule_code, line_code, answer_by, line_answer, and_then, script_after, bounded, script_of}
 use Rattle.script_words.specs.Lines.{word_lines}
 use Rattle.script_bounds.specs.Bounds.{bound}
@@ -79,6 +79,11 @@ word_of (c.Links n) = w.Links
 word_of (c.Order numbers) = w.Order
 word_of (c.Lose at rank) = w.Lose
 word_of (c.Spares n) = w.Spares
+word_of (c.Field n) = w.Field
+word_of (c.Ptran m n alpha a ia ja beta x ic jc) = w.Ptran
+word_of (c.Pgetri n a ia ja v b ib jb) = w.Pgetri
+word_of (c.Flip name i j x) = w.Flip
+word_of (c.Pverify name) = w.Pverify
 
 -- what the form of a line says of its command: its word, its names and its count
 pub record IsFormed (script : List (Option Command)) (word : CommandWord) (d : Command) : Type 0 where
@@ -108,7 +113,7 @@ word_kept script w first others n e j kind k = words_code-at (commands_of script
 
 -- a command whose names break no rule
 kept_form : (script : List (Option Command)) (first : List ℕ) (others : List (List ℕ)) (w : CommandWord) (d : Command) → Formed script w others → command_as (Some w) (first ∷ others) ≡ Some d → IsFormed script w d
-unfolding command_as grid_of matrix_of pgemm_of ptrsm_of pgetrf_of pgetrs_of pgemr2d_of links_of order_of lose_of spares_line_of
+unfolding command_as grid_of matrix_of pgemm_of ptrsm_of pgetrf_of pgetrs_of pgemr2d_of links_of order_of lose_of spares_line_of field_of ptran_of pgetri_of flip_of
 kept_form script first others w.Grid d h e =
     let count : 4 ≡ length others = sym (eqb-true (length others) 4 h.count) in
     let kept = word_kept script w.Grid first others count h.words in
@@ -208,6 +213,41 @@ kept_form script first others w.Lose d h e =
 kept_form script first others w.Spares d h e =
     bind_then (number_at (first ∷ others) 1) _ d (IsFormed script w.Spares d) e (λ x1 t1 e1.
     subst (IsFormed script w.Spares) (same_Some (c.Spares x1) d e1) (record { same = refl; count = refl; names = refl }))
+kept_form script first others w.Field d h e =
+    bind_then (number_at (first ∷ others) 1) _ d (IsFormed script w.Field d) e (λ x1 t1 e1.
+    subst (IsFormed script w.Field) (same_Some (c.Field x1) d e1) (record { same = refl; count = refl; names = refl }))
+kept_form script first others w.Ptran d h e =
+    let count : 10 ≡ length others = sym (eqb-true (length others) 10 h.count) in
+    let kept = word_kept script w.Ptran first others count h.words in
+    bind_then (number_at (first ∷ others) 1) _ d (IsFormed script w.Ptran d) e (λ x1 t1 e1.
+    bind_then (number_at (first ∷ others) 2) _ d (IsFormed script w.Ptran d) e1 (λ x2 t2 e2.
+    bind_then (number_at (first ∷ others) 3) _ d (IsFormed script w.Ptran d) e2 (λ x3 t3 e3.
+    bind_then (number_at (first ∷ others) 5) _ d (IsFormed script w.Ptran d) e3 (λ x5 t5 e5.
+    bind_then (number_at (first ∷ others) 6) _ d (IsFormed script w.Ptran d) e5 (λ x6 t6 e6.
+    bind_then (number_at (first ∷ others) 7) _ d (IsFormed script w.Ptran d) e6 (λ x7 t7 e7.
+    bind_then (number_at (first ∷ others) 9) _ d (IsFormed script w.Ptran d) e7 (λ x9 t9 e9.
+    bind_then (number_at (first ∷ others) 10) _ d (IsFormed script w.Ptran d) e9 (λ x10 t10 e10.
+    subst (IsFormed script w.Ptran) (same_Some (c.Ptran x1 x2 x3 (word_at (first ∷ others) 4) x5 x6 x7 (word_at (first ∷ others) 8) x9 x10) d e10) (record { same = refl; count = refl; names = none_or _ _ (kept 3 MatrixName refl) (none_or _ _ (kept 7 MatrixName refl) refl) })))))))))
+kept_form script first others w.Pgetri d h e =
+    let count : 8 ≡ length others = sym (eqb-true (length others) 8 h.count) in
+    let kept = word_kept script w.Pgetri first others count h.words in
+    bind_then (number_at (first ∷ others) 1) _ d (IsFormed script w.Pgetri d) e (λ x1 t1 e1.
+    bind_then (number_at (first ∷ others) 3) _ d (IsFormed script w.Pgetri d) e1 (λ x3 t3 e3.
+    bind_then (number_at (first ∷ others) 4) _ d (IsFormed script w.Pgetri d) e3 (λ x4 t4 e4.
+    bind_then (number_at (first ∷ others) 7) _ d (IsFormed script w.Pgetri d) e4 (λ x7 t7 e7.
+    bind_then (number_at (first ∷ others) 8) _ d (IsFormed script w.Pgetri d) e7 (λ x8 t8 e8.
+    subst (IsFormed script w.Pgetri) (same_Some (c.Pgetri x1 (word_at (first ∷ others) 2) x3 x4 (word_at (first ∷ others) 5) (word_at (first ∷ others) 6) x7 x8) d e8) (record { same = refl; count = refl; names = none_or _ _ (kept 1 MatrixName refl) (none_or _ _ (kept 4 ListName refl) (none_or _ _ (kept 5 MatrixName refl) refl)) }))))))
+kept_form script first others w.Flip d h e =
+    let count : 4 ≡ length others = sym (eqb-true (length others) 4 h.count) in
+    let kept = word_kept script w.Flip first others count h.words in
+    bind_then (number_at (first ∷ others) 2) _ d (IsFormed script w.Flip d) e (λ x2 t2 e2.
+    bind_then (number_at (first ∷ others) 3) _ d (IsFormed script w.Flip d) e2 (λ x3 t3 e3.
+    bind_then (number_at (first ∷ others) 4) _ d (IsFormed script w.Flip d) e3 (λ x4 t4 e4.
+    subst (IsFormed script w.Flip) (same_Some (c.Flip (word_at (first ∷ others) 1) x2 x3 x4) d e4) (record { same = refl; count = refl; names = none_or _ _ (kept 0 MatrixName refl) refl }))))
+kept_form script first others w.Pverify d h e =
+    let count : 1 ≡ length others = sym (eqb-true (length others) 1 h.count) in
+    let kept = word_kept script w.Pverify first others count h.words in
+    subst (IsFormed script w.Pverify) (same_Some (c.Pverify (word_at (first ∷ others) 1)) d e) (record { same = refl; count = refl; names = none_or _ _ (kept 0 MatrixName refl) refl })
 
 -- ---- a line that breaks no rule
 
@@ -265,7 +305,7 @@ numbers_there (word ∷ words) t =
     some_bound (number_of word) _ both.0 (λ n. some_bound (numbers_of words) _ (numbers_there words both.1) (λ ns. refl))
 
 spelled : (script : List (Option Command)) (first : List ℕ) (others : List (List ℕ)) (w : CommandWord) → Formed script w others → is_some (command_as (Some w) (first ∷ others)) ≡ true
-unfolding command_as grid_of matrix_of pgemm_of ptrsm_of pgetrf_of pgetrs_of pgemr2d_of links_of order_of lose_of spares_line_of
+unfolding command_as grid_of matrix_of pgemm_of ptrsm_of pgetrf_of pgetrs_of pgemr2d_of links_of order_of lose_of spares_line_of field_of ptran_of pgetri_of flip_of
 spelled script first others w.Grid h =
     let count : 4 ≡ length others = sym (eqb-true (length others) 4 h.count) in
     let number = number_there script w.Grid first others count h.words in
@@ -311,6 +351,23 @@ spelled script first others w.Spares h =
     let count : 1 ≡ length others = sym (eqb-true (length others) 1 h.count) in
     let number = number_there script w.Spares first others count h.words in
     some_bound _ _ (number 0 refl) (λ x0. refl)
+spelled script first others w.Field h =
+    let count : 1 ≡ length others = sym (eqb-true (length others) 1 h.count) in
+    let number = number_there script w.Field first others count h.words in
+    some_bound _ _ (number 0 refl) (λ x0. refl)
+spelled script first others w.Ptran h =
+    let count : 10 ≡ length others = sym (eqb-true (length others) 10 h.count) in
+    let number = number_there script w.Ptran first others count h.words in
+    some_bound _ _ (number 0 refl) (λ x0. some_bound _ _ (number 1 refl) (λ x1. some_bound _ _ (number 2 refl) (λ x2. some_bound _ _ (number 4 refl) (λ x4. some_bound _ _ (number 5 refl) (λ x5. some_bound _ _ (number 6 refl) (λ x6. some_bound _ _ (number 8 refl) (λ x8. some_bound _ _ (number 9 refl) (λ x9. refl))))))))
+spelled script first others w.Pgetri h =
+    let count : 8 ≡ length others = sym (eqb-true (length others) 8 h.count) in
+    let number = number_there script w.Pgetri first others count h.words in
+    some_bound _ _ (number 0 refl) (λ x0. some_bound _ _ (number 2 refl) (λ x2. some_bound _ _ (number 3 refl) (λ x3. some_bound _ _ (number 6 refl) (λ x6. some_bound _ _ (number 7 refl) (λ x7. refl)))))
+spelled script first others w.Flip h =
+    let count : 4 ≡ length others = sym (eqb-true (length others) 4 h.count) in
+    let number = number_there script w.Flip first others count h.words in
+    some_bound _ _ (number 1 refl) (λ x1. some_bound _ _ (number 2 refl) (λ x2. some_bound _ _ (number 3 refl) (λ x3. refl)))
+spelled script first others w.Pverify h = refl
 
 spelled_by : (script : List (Option Command)) (first : List ℕ) (others : List (List ℕ)) (o : Option CommandWord) → command_code script o others ≡ None → is_some (command_as o (first ∷ others)) ≡ true
 spelled_by script first others None e = absurd cc

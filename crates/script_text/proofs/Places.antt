@@ -18,7 +18,7 @@ use Rattle.script_words.specs.Limits.{line_limit, record_limit}
 use Rattle.script_rules.specs.Counted.{AreCounts, commands_before}
 use Rattle.script_words.specs.Tables.{first_code}
 use Rattle.script_rules.specs.Rules.{ranks_made, ranks_of, grid_rules}
-use Rattle.script_rules.specs.Told.{has_loss}
+use Rattle.script_rules.specs.Told.{told_of_script}
 use Rattle.script_bounds.specs.Bounds.{bound}
 use Rattle.script_text.specs.Script.{refused}
 use Rattle.script_bounds.specs.Accepted.{broken_by, KeepsRules, IsAccepted}
@@ -29,7 +29,7 @@ use Rattle.script_bounds.proofs.Summing.{ranks_of-sum}
 use Rattle.script_rules.proofs.Counting.{AreCounts-more, commands_of-none, commands_of-some}
 use Rattle.script_words.proofs.Tables.{or_none, first_none, all_kept}
 use Rattle.script_text.proofs.Keeping.{KeepsRulesOf, KeepsRulesOf-more, KeepsRulesOf-none}
-use Rattle.script_text.proofs.Telling.{rules_of, KeepsRules-from_Of, apart-from_Of}
+use Rattle.script_text.proofs.Telling.{rules_of, KeepsRules-from_Of}
 
 -- the lines up to a place, with the line there
 pub take-more : (script : List (Option Command)) (place : ℕ) (d o : Option Command) → place < length script → get_or script place d ≡ o → take (suc place) script ≡ take place script ++ o ∷ []
@@ -133,13 +133,13 @@ sums_same k (Some d ∷ lines) h =
     omega (arith, sum_by-cons (λ n. ranks_shaped n.command) n (commands_from (suc k) lines), sum_by-cons (λ n. ranks_made n.command) n (commands_from (suc k) lines), h 0 d refl, rest)
 
 -- what it tells is then what its commands make
-pub told_same : (told : Told) (script : List (Option Command)) → KeepsRulesOf told script → told_of (commands_of script) ≡ record { ranks = ranks_of (commands_of script); has_losses = has_loss (commands_of script) }
+pub told_same : (told : Told) (script : List (Option Command)) → KeepsRulesOf told script → told_of (commands_of script) ≡ told_of_script (commands_of script)
 told_same told script h =
     let cs = commands_of script in
     let ranks : (told_of cs).ranks ≡ ranks_of cs = sums_same 1 script (λ i d e. shaped_kept told (take i script) d (h.kept i d e)) ∙ sym (ranks_of-sum cs) in
-    λ i. record { ranks = ranks i; has_losses = has_loss cs }
+    λ i. record { ranks = ranks i }
 
-keeps : (script : List (Option Command)) → first_broken (told_of (commands_of script)) [] script ≡ None → KeepsRulesOf (record { ranks = ranks_of (commands_of script); has_losses = has_loss (commands_of script) }) script
+keeps : (script : List (Option Command)) → first_broken (told_of (commands_of script)) [] script ≡ None → KeepsRulesOf (told_of_script (commands_of script)) script
 keeps script e =
     let told = told_of (commands_of script) in
     let h = KeepsRulesOf-from_first_broken told [] script (KeepsRulesOf-none told) e in
@@ -149,7 +149,7 @@ pub KeepsRules-from_check : (script : List (Option Command)) → first_broken (t
 KeepsRules-from_check script e = KeepsRules-from_Of script (keeps script e)
 
 pub IsAccepted-from_check : (script : List (Option Command)) → first_broken (told_of (commands_of script)) [] script ≡ None → bound (commands_of script) ≤ record_limit → IsAccepted script
-IsAccepted-from_check script e le = record { lines = KeepsRules-from_check script e; apart = apart-from_Of script (keeps script e); bounded = le }
+IsAccepted-from_check script e le = record { lines = KeepsRules-from_check script e; bounded = le }
 
 -- ---- the answer of the whole
 

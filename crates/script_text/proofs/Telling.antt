@@ -1,13 +1,12 @@
 -- What a script tells as a whole: the same by its lines, as they are read, and by its commands.
-use Rattle.std.proofs.Common.{◌≡◌, ℕ, suc, ◌+◌, ◌*◌, ◌≤◌, Bool, true, false, cond, ltb, List, [], ◌∷◌, ◌++◌, length, take, Option, Some, None, Ok, refl, sym, ap, subst, ◌∙◌, arith}
-use Rattle.std.specs.Prelude.{◌||◌, ◌==◌, not, codes, pos, slice_get}
+use Rattle.std.proofs.Common.{◌≡◌, ℕ, suc, ◌+◌, ◌*◌, Bool, true, false, cond, List, [], ◌∷◌, ◌++◌, length, Option, Some, None, Ok, refl, sym, ap, subst, ◌∙◌, arith}
+use Rattle.std.specs.Prelude.{codes}
 use Rattle.std.specs.List.{sum_by}
 use Rattle.std.specs.Option.{option_or}
 use Rattle.std.specs.Str.{bytes_eq}
 use Rattle.std.proofs.lemmas.Bool.{eqb-true}
-use Rattle.std.proofs.lemmas.Bool.Decides.{nat_tests}
 use Rattle.std.proofs.lemmas.List.Sums.{sum_by-cons}
-use Rattle.std.proofs.lemmas.Option.{same_Some, slice_get_within}
+use Rattle.std.proofs.lemmas.Option.{same_Some}
 use Rattle.std.proofs.lemmas.Slice.Eq.{bytes_eq-Decides}
 use Rattle.run_data.specs.declared.command.Command.{Command}
 use Rattle.run_data.specs.declared.command.Command.TheVariants as c
@@ -18,17 +17,14 @@ use Rattle.script_rules.specs.declared.told.Told.{Told}
 use Rattle.script_words.specs.Numbers.{number_of}
 use Rattle.script_words.specs.Kinds.{own_words, routine_words, command_in, command_word}
 use Rattle.script_words.specs.Tables.{first_code}
-use Rattle.script_rules.specs.Rules.{layout_of, live_lists, ranks_made, ranks_of, is_shape, grid_rules, list_rules, rules}
-use Rattle.script_rules.specs.Routines.{pgetrf_rules}
+use Rattle.script_rules.specs.Rules.{ranks_made, ranks_of, is_shape, grid_rules, rules}
 use Rattle.script_words.specs.Commands.{grid_of, command_as, command_of}
 use Rattle.script_text.specs.Script.{command_code, form_code_of, rule_code, script_after}
-use Rattle.script_rules.specs.Told.{shape_ranks, ranks_told, tells_loss, tell_loss, told_by, is_loss, has_loss}
-use Rattle.script_bounds.specs.Accepted.{named_words, count_rules, names_code, broken_by, factors_code, KeepsRules}
-use Rattle.script_words.proofs.Tables.{first_code-append, or_none, none_or, all_kept}
+use Rattle.script_rules.specs.Told.{shape_ranks, ranks_told, told_by, told_of_script}
+use Rattle.script_bounds.specs.Accepted.{named_words, count_rules, names_code, broken_by, KeepsRules}
+use Rattle.script_words.proofs.Tables.{or_none, all_kept}
 use Rattle.script_rules.proofs.Counting.{total-append, commands_of-none, commands_of-some}
 use Rattle.script_text.proofs.Keeping.{bind_some, word_of, formed, formed_command, command_spelled, Said, KeepsRulesOf, KeepsRulesOf-from_script_after, read_lines_of}
-use Rattle.script_rules.proofs.Before.{length-take_le, layout_of-take}
-use Rattle.script_rules.proofs.ToldLines.{or_false}
 
 -- ---- the words of the commands as text
 
@@ -48,6 +44,11 @@ spelling w.Links = codes "links"
 spelling w.Order = codes "order"
 spelling w.Lose = codes "lose"
 spelling w.Spares = codes "spares"
+spelling w.Field = codes "field"
+spelling w.Ptran = codes "ptran"
+spelling w.Pgetri = codes "pgetri"
+spelling w.Flip = codes "flip"
+spelling w.Pverify = codes "pverify"
 
 abbrev AllSpelled : List (List ℕ × CommandWord) → Type 0
 AllSpelled [] = Unit {0}
@@ -67,8 +68,8 @@ unfolding command_word
 command_word-spelled word x e = by_own (command_in own_words word) refl e
   where
     by_own : (o : Option CommandWord) → command_in own_words word ≡ o → option_or o (command_in routine_words word) ≡ Some x → word ≡ spelling x
-    by_own (Some y) o e = command_in-spelled own_words word x (refl, (refl, (refl, (refl, (refl, (refl, (refl, (refl, (refl, (refl, tt)))))))))) (o ∙ e)
-    by_own None o e = command_in-spelled routine_words word x (refl, (refl, (refl, (refl, (refl, tt))))) e
+    by_own (Some y) o e = command_in-spelled own_words word x (refl, (refl, (refl, (refl, (refl, (refl, (refl, (refl, (refl, (refl, (refl, (refl, tt)))))))))))) (o ∙ e)
+    by_own None o e = command_in-spelled routine_words word x (refl, (refl, (refl, (refl, (refl, (refl, (refl, (refl, tt)))))))) e
 
 -- ---- the ranks of a line
 
@@ -112,30 +113,18 @@ ranks_by told cs line first others d w.Grid s v e n r =
     ap (λ f. ranks_told (f ∷ others)) s ∙ grid_told told cs line others d (n refl) (sym (ap (λ f. grid_of (f ∷ others)) s) ∙ e) r
 ranks_by told cs line first others d x s v e n r = none_told first others (ap (λ f. bytes_eq f (codes "grid")) s) ∙ sym (no_ranks d (λ g. cc))
 
-loss_of_word : (d : Command) → bytes_eq (spelling (word_of d)) (codes "lose") ≡ is_loss d
-loss_of_word (c.Lose at rank) = refl
-loss_of_word d = refl
-
 -- ---- a line that is read tells what its command does
 
 abbrev ranks_of_line : Option Command → ℕ
 ranks_of_line None = 0
 ranks_of_line (Some d) = ranks_made d
 
-abbrev loss_of_line : Option Command → Bool
-loss_of_line None = false
-loss_of_line (Some d) = is_loss d
-
-record Tells (words : List (List ℕ)) (o : Option Command) : Type 0 where
-  ranks : ranks_told words ≡ ranks_of_line o
-  loss : tells_loss words ≡ loss_of_line o
-
 form_of_grid : (script : List (Option Command)) (first : List ℕ) (others : List (List ℕ)) → form_code_of script (first ∷ others) ≡ None → command_word first ≡ Some w.Grid → length others ≡ 4
 form_of_grid script first others f e = eqb-true (length others) 4 (formed script w.Grid others (sym (ap (λ o. command_code script o others) e) ∙ f)).count
 
-line_tells : (told : Told) (front : List (Option Command)) (words : List (List ℕ)) (o : Option Command) → Said told front words o → Tells words o
+line_tells : (told : Told) (front : List (Option Command)) (words : List (List ℕ)) (o : Option Command) → Said told front words o → ranks_told words ≡ ranks_of_line o
 unfolding command_of rule_code
-line_tells told front [] o said = subst (Tells []) said.command (record { ranks = refl; loss = refl })
+line_tells told front [] o said = subst (λ x. 0 ≡ ranks_of_line x) said.command refl
 line_tells told front (first ∷ others) o said =
     let there = command_spelled front first others said.form in
     let d = there.0 in
@@ -146,10 +135,7 @@ line_tells told front (first ∷ others) o said =
     let kept : first_code (rules told (commands_of front) (suc (length front)) d) ≡ None = ap (rule_code told front) is ∙ said.rule in
     let spelled : command_as (Some by_form.0) (first ∷ others) ≡ Some d = sym (ap (λ x. command_as x (first ∷ others)) by_form.1) ∙ there.1 in
     let count : by_form.0 ≡ w.Grid → length others ≡ 4 = λ g. form_of_grid front first others said.form (by_form.1 ∙ ap (λ (x : CommandWord). Some x) g) in
-    subst (Tells (first ∷ others)) is (record {
-      ranks = ranks_by told (commands_of front) (suc (length front)) first others d by_form.0 same word spelled count kept;
-      loss = ap (λ f. bytes_eq f (codes "lose")) (same ∙ ap spelling (sym word)) ∙ loss_of_word d;
-    })
+    subst (λ x. ranks_told (first ∷ others) ≡ ranks_of_line x) is (ranks_by told (commands_of front) (suc (length front)) first others d by_form.0 same word spelled count kept)
 
 -- ---- the whole script
 
@@ -158,117 +144,34 @@ ranks_more front None = omega (arith, ap ranks_of (commands_of-none front))
 ranks_more front (Some d) =
     ap ranks_of (commands_of-some front (suc (length front)) d refl) ∙ total-append (λ before n. ranks_made n.command) (commands_of front) (record { line = suc (length front); command = d })
 
-or_assoc : (x y z : Bool) → ((x || y) || z) ≡ (x || (y || z))
-or_assoc true y z = refl
-or_assoc false y z = refl
-
-has_loss-append : (ns : List Numbered) (n : Numbered) → has_loss (ns ++ n ∷ []) ≡ (has_loss ns || is_loss n.command)
-has_loss-append [] n = or_false (is_loss n.command)
-has_loss-append (m ∷ ns) n = ap (λ b. is_loss m.command || b) (has_loss-append ns n) ∙ sym (or_assoc (is_loss m.command) (has_loss ns) (is_loss n.command))
-
-loss_more : (front : List (Option Command)) (o : Option Command) → has_loss (commands_of (front ++ o ∷ [])) ≡ (has_loss (commands_of front) || loss_of_line o)
-loss_more front None = ap has_loss (commands_of-none front) ∙ sym (or_false (has_loss (commands_of front)))
-loss_more front (Some d) = ap has_loss (commands_of-some front (suc (length front)) d refl) ∙ has_loss-append (commands_of front) (record { line = suc (length front); command = d })
-
 -- what the commands of the lines so far and the lines that are left tell together
-record TellsAll (all : List (List (List ℕ))) (front : List (Option Command)) (lines : List (List (List ℕ))) : Type 0 where
-  ranks : ranks_of (commands_of front) + sum_by ranks_told lines ≡ sum_by ranks_told all
-  losses : (has_loss (commands_of front) || tell_loss lines) ≡ tell_loss all
+abbrev TellsAll : List (List (List ℕ)) → List (Option Command) → List (List (List ℕ)) → Type 0
+TellsAll all front lines = ranks_of (commands_of front) + sum_by ranks_told lines ≡ sum_by ranks_told all
 
 TellsAll-next : (told : Told) (all : List (List (List ℕ))) (front : List (Option Command)) (words : List (List ℕ)) (lines : List (List (List ℕ))) (o : Option Command) → Said told front words o →
     TellsAll all front (words ∷ lines) → TellsAll all (front ++ o ∷ []) lines
-TellsAll-next told all front words lines o said h =
-    let line = line_tells told front words o said in
-    record {
-      ranks = omega (arith, ranks_more front o, line.ranks, h.ranks, sum_by-cons ranks_told words lines);
-      losses = ap (λ b. b || tell_loss lines) (loss_more front o) ∙ or_assoc (has_loss (commands_of front)) (loss_of_line o) (tell_loss lines)
-          ∙ ap (λ b. has_loss (commands_of front) || (b || tell_loss lines)) (sym line.loss) ∙ h.losses;
-    }
+TellsAll-next told all front words lines o said h = omega (arith, ranks_more front o, line_tells told front words o said, h, sum_by-cons ranks_told words lines)
 
 -- a script that is read tells what its lines tell
-pub tells_same : (lines : List (List (List ℕ))) (script : List (Option Command)) → script_after (told_by lines) [] lines ≡ Ok script →
-    told_by lines ≡ record { ranks = ranks_of (commands_of script); has_losses = has_loss (commands_of script) }
+pub tells_same : (lines : List (List (List ℕ))) (script : List (Option Command)) → script_after (told_by lines) [] lines ≡ Ok script → told_by lines ≡ told_of_script (commands_of script)
 tells_same lines script e =
     let whole : TellsAll lines script [] =
-    read_lines_of (told_by lines) (TellsAll lines) script (λ front words rest o said h. TellsAll-next (told_by lines) lines front words rest o said h) [] lines (record { ranks = omega arith; losses = refl }) e in
-    let ranks : sum_by ranks_told lines ≡ ranks_of (commands_of script) = omega (arith, whole.ranks) in
-    let losses : tell_loss lines ≡ has_loss (commands_of script) = sym whole.losses ∙ or_false (has_loss (commands_of script)) in
-    λ i. record { ranks = ranks i; has_losses = losses i }
-
--- ---- the rules without losses
-
-without_losses : (ranks : ℕ) (losses : Bool) (cs : List Numbered) (line : ℕ) (d : Command) → first_code (rules (record { ranks = ranks; has_losses = losses }) cs line d) ≡ None →
-    first_code (rules (record { ranks = ranks; has_losses = false }) cs line d) ≡ None
-without_losses ranks losses cs line (c.Pgetrf m n a ia ja v) e =
-    let layout = layout_of cs line a in
-    let own = pgetrf_rules m n ia ja layout in
-    let both = or_none (first_code own) _ (sym (first_code-append own (list_rules (live_lists cs) losses layout)) ∙ e) in
-    let live = (all_kept (list_rules (live_lists cs) losses layout) both.1).0 in
-    first_code-append own (list_rules (live_lists cs) false layout) ∙ none_or (first_code own) _ both.0 (ap (λ t. first_code ((pos 10, t) ∷ [])) live)
-without_losses ranks losses cs line d e = e
-
-broken_without : (ranks : ℕ) (losses : Bool) (front : List (Option Command)) (d : Command) → broken_by (record { ranks = ranks; has_losses = losses }) front d ≡ None →
-    broken_by (record { ranks = ranks; has_losses = false }) front d ≡ None
-unfolding broken_by
-broken_without ranks losses front d e =
-    let one = or_none (first_code (count_rules d)) _ e in
-    let two = or_none (names_code (commands_of front) (suc (length front)) (named_words d)) _ one.1 in
-    none_or _ _ one.0 (none_or _ _ two.0 (without_losses ranks losses (commands_of front) (suc (length front)) d two.1))
+    read_lines_of (told_by lines) (TellsAll lines) script (λ front words rest o said h. TellsAll-next (told_by lines) lines front words rest o said h) [] lines (omega arith) e in
+    let ranks : sum_by ranks_told lines ≡ ranks_of (commands_of script) = omega (arith, whole) in
+    λ i. record { ranks = ranks i }
 
 -- a script none of whose lines breaks a rule, where its own commands tell what it tells as a whole, keeps the rules
-pub KeepsRules-from_Of : (script : List (Option Command)) → KeepsRulesOf (record { ranks = ranks_of (commands_of script); has_losses = has_loss (commands_of script) }) script → KeepsRules script
-KeepsRules-from_Of script h =
-    let cs = commands_of script in
-    record { few = h.few; kept = λ i d at. broken_without (ranks_of cs) (has_loss cs) (take i script) d (h.kept i d at) }
-
-of_lines : (lines : List (List (List ℕ))) (script : List (Option Command)) → script_after (told_by lines) [] lines ≡ Ok script →
-    KeepsRulesOf (record { ranks = ranks_of (commands_of script); has_losses = has_loss (commands_of script) }) script
-of_lines lines script e = subst (λ told. KeepsRulesOf told script) (tells_same lines script e) (KeepsRulesOf-from_script_after (told_by lines) lines script e)
+pub KeepsRules-from_Of : (script : List (Option Command)) → KeepsRulesOf (told_of_script (commands_of script)) script → KeepsRules script
+KeepsRules-from_Of script h = record { few = h.few; kept = h.kept }
 
 -- a script that is read keeps the rules
 pub KeepsRules-from_script_after : (lines : List (List (List ℕ))) (script : List (Option Command)) → script_after (told_by lines) [] lines ≡ Ok script → KeepsRules script
-KeepsRules-from_script_after lines script e = KeepsRules-from_Of script (of_lines lines script e)
+KeepsRules-from_script_after lines script e =
+    KeepsRules-from_Of script (subst (λ told. KeepsRulesOf told script) (tells_same lines script e) (KeepsRulesOf-from_script_after (told_by lines) lines script e))
 
--- ---- losses and factorizations with code columns are apart
-
-apart_by : (losses zeros : Bool) → (not losses || zeros) ≡ true → losses ≡ true → zeros ≡ true
-apart_by true zeros h e = h
-apart_by false zeros h e = absurd cc
-
-none_below : (f : ℕ) → f ≡ 0 → ltb 0 f ≡ false
-none_below f e = grind (arith, nat_tests)
-
-factors_none : (ranks : ℕ) (losses : Bool) (cs : List Numbered) (line : ℕ) (d : Command) → losses ≡ true → first_code (rules (record { ranks = ranks; has_losses = losses }) cs line d) ≡ None → factors_code cs line d ≡ false
-factors_none ranks losses cs line (c.Pgetrf m n a ia ja v) some e =
-    let layout = layout_of cs line a in
-    let own = pgetrf_rules m n ia ja layout in
-    let both = or_none (first_code own) _ (sym (first_code-append own (list_rules (live_lists cs) losses layout)) ∙ e) in
-    let rule = (all_kept (list_rules (live_lists cs) losses layout) both.1).1.0 in
-    none_below layout.f (eqb-true layout.f 0 (apart_by losses (layout.f == 0) rule some))
-factors_none ranks losses cs line d some e = refl
-
-factors-take : (script : List (Option Command)) (i : ℕ) (d : Command) → i ≤ length script → factors_code (commands_of (take i script)) (suc i) d ≡ factors_code (commands_of script) (suc i) d
-factors-take script i (c.Pgetrf m n a ia ja v) le = ap (λ l. ltb 0 l.f) (layout_of-take script i a le)
-factors-take script i d le = refl
-
+-- a command that breaks no rule of its line breaks none of its own
 pub rules_of : (told : Told) (front : List (Option Command)) (d : Command) → broken_by told front d ≡ None → first_code (rules told (commands_of front) (suc (length front)) d) ≡ None
 unfolding broken_by
 rules_of told front d e =
     let one = or_none (first_code (count_rules d)) _ e in
     (or_none (names_code (commands_of front) (suc (length front)) (named_words d)) _ one.1).1
-
--- a script with losses none of whose lines breaks a rule factors no matrix with code columns
-pub apart-from_Of : (script : List (Option Command)) → KeepsRulesOf (record { ranks = ranks_of (commands_of script); has_losses = has_loss (commands_of script) }) script → has_loss (commands_of script) ≡ true →
-    (i : ℕ) (d : Command) → slice_get script i ≡ Some (Some d) → factors_code (commands_of script) (suc i) d ≡ false
-apart-from_Of script h some i d at =
-    let cs = commands_of script in
-    let front = take i script in
-    let le : i ≤ length script = omega (arith, slice_get_within script i (Some d) at) in
-    let size : length front ≡ i = length-take_le script i le in
-    let own = rules_of (record { ranks = ranks_of cs; has_losses = has_loss cs }) front d (h.kept i d at) in
-    let none : factors_code (commands_of front) (suc (length front)) d ≡ false = factors_none (ranks_of cs) (has_loss cs) (commands_of front) (suc (length front)) d some own in
-    sym (factors-take script i d le) ∙ subst (λ n. factors_code (commands_of front) (suc n) d ≡ false) size none
-
-pub apart-from_script_after : (lines : List (List (List ℕ))) (script : List (Option Command)) → script_after (told_by lines) [] lines ≡ Ok script → has_loss (commands_of script) ≡ true →
-    (i : ℕ) (d : Command) → slice_get script i ≡ Some (Some d) → factors_code (commands_of script) (suc i) d ≡ false
-apart-from_script_after lines script e = apart-from_Of script (of_lines lines script e)

@@ -10,7 +10,6 @@ use Rattle.script_words.specs.Limits.{line_limit, record_limit}
 use Rattle.script_rules.specs.declared.told.Told.{Told}
 use Rattle.script_words.specs.Tables.{first_code}
 use Rattle.script_rules.specs.Rules.{is_shape}
-use Rattle.script_rules.specs.Told.{has_loss}
 use Rattle.script_text.specs.Script.{refused}
 use Rattle.script_bounds.specs.Accepted.{broken_by}
 use Rattle.script_bounds.specs.Bounds.{bound}
@@ -22,7 +21,7 @@ ranks_shaped _ = 0
 
 -- what a script tells as a whole
 abbrev pub told_of : List Numbered → Told
-told_of cs = record { ranks = sum_by (λ n. ranks_shaped n.command) cs; has_losses = has_loss cs }
+told_of cs = record { ranks = sum_by (λ n. ranks_shaped n.command) cs }
 
 -- the first rule that the command of a line breaks, as the next line of a script; a line without words breaks none
 abbrev pub command_broken : Told → List (Option Command) → Option Command → Option ℤ

@@ -6,7 +6,6 @@ ghost use Rattle.run_data.specs.Script.{commands_of};
 ghost use Rattle.script_words.specs.Tables.{first_code};
 ghost use Rattle.script_rules.specs.Rules.{word_rules};
 ghost use Rattle.script_rules.specs.Counted.{AreCounts, commands_before};
-ghost use Rattle.script_rules.specs.Told.{has_loss};
 ghost use Rattle.script_bounds.specs.Accepted.{count_rules, named_words, names_code, broken_by, IsAccepted};
 ghost use Rattle.script_text.specs.Check.{ranks_shaped, told_of, line_broken, first_broken, first_refusal};
 
@@ -47,19 +46,6 @@ fn all_ranks(script: &Script) -> u64
     ranks
 }
 
-// Whether a script has a `lose` line.
-fn has_loss(script: &Script) -> bool
-    ensures { result ≡ has_loss (commands_of script.now) }
-{
-    let lines = script.as_slice();
-    for i in 0..lines.len() {
-        if let Some(Command::Lose { .. }) = &lines[i] {
-            return true;
-        }
-    }
-    false
-}
-
 // The code of the first rule that a name breaks by its kind, or that of the words after it.
 fn named(script: &Script, line: u32, kind: Kind, name: &[u8], others: Option<i32>) -> Option<i32>
     ensures { result ≡ option_or (first_code (word_rules (commands_of script.now) line kind name.now)) others }
@@ -82,6 +68,15 @@ fn operands(
 {
     let others = named(script, line, Kind::MatrixName, second, others);
     named(script, line, Kind::MatrixName, first, others)
+}
+
+// The code of the names of factors, of their pivot list and of the matrix that is solved for.
+fn solved(script: &Script, line: u32, a: &[u8], v: &[u8], b: &[u8]) -> Option<i32>
+    ensures { result ≡ names_code (commands_of script.now) line ((Kind.MatrixName, a.now) ∷ (Kind.ListName, v.now) ∷ (Kind.MatrixName, b.now) ∷ []) }
+{
+    let others = named(script, line, Kind::MatrixName, b, None);
+    let others = named(script, line, Kind::ListName, v, others);
+    named(script, line, Kind::MatrixName, a, others)
 }
 
 // The code of the first name of a command, from left to right, that breaks a rule on a line.
@@ -109,13 +104,13 @@ fn names_code(script: &Script, line: u32, command: &Command) -> Option<i32>
             let others = named(script, line, Kind::NewName, v.bytes(), None);
             named(script, line, Kind::MatrixName, a.bytes(), others)
         }
-        Command::Pgetrs { a, v, b, .. } => {
-            let others = named(script, line, Kind::MatrixName, b.bytes(), None);
-            let others = named(script, line, Kind::ListName, v.bytes(), others);
-            named(script, line, Kind::MatrixName, a.bytes(), others)
-        }
+        Command::Pgetrs { a, v, b, .. } => solved(script, line, a.bytes(), v.bytes(), b.bytes()),
         Command::Pgemr2d { a, b, .. } => operands(script, line, a.bytes(), b.bytes(), None),
+        Command::Ptran { a, c, .. } => operands(script, line, a.bytes(), c.bytes(), None),
+        Command::Pgetri { a, v, b, .. } => solved(script, line, a.bytes(), v.bytes(), b.bytes()),
+        Command::Flip { name, .. } => named(script, line, Kind::MatrixName, name.bytes(), None),
         Command::Print { name } => named(script, line, Kind::MatrixName, name.bytes(), None),
+        Command::Pverify { name } => named(script, line, Kind::MatrixName, name.bytes(), None),
         Command::Pivots { name } => named(script, line, Kind::ListName, name.bytes(), None),
         Command::Discard { name } => named(script, line, Kind::ThingName, name.bytes(), None),
         _ => None,
@@ -179,7 +174,6 @@ fn first_broken(script: &Script) -> Option<Refused>
 {
     let told = Told {
         ranks: all_ranks(script),
-        has_losses: has_loss(script),
     };
     let mut counts = Counts::new();
     for place in 0..script.lines() {

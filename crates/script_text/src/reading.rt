@@ -138,8 +138,7 @@ fn read_lines(alloc: Global, told: Told, bytes: &[u8]) -> Result<Script, TextFau
 
 /// The script that the bytes spell. The refusal is the first broken rule: of the first line that breaks one, by its number, the first
 /// in the order of codes 11, 1 and 2, then of the words from left to right, then of the rules of its command; and at line 0, code 7,
-/// where the records of all lines are more than 4,194,304. A `lose` line looks at all grids of the script, and a `pgetrf` line at all its
-/// `lose` lines, wherever they stand.
+/// where the records of all lines are more than 4,194,304. A `lose` line looks at all grids of the script, wherever they stand.
 #[tactic(auto, unfolding(crate::specs::Script::script_of))]
 pub fn parse_script(alloc: Global, bytes: &[u8]) -> Result<Script, TextFault>
     requires { length bytes.now ≤ 16777216 }

@@ -94,6 +94,18 @@ not_true : (t : Bool) → not t ≡ true → t ≡ false
 not_true true e = absurd cc
 not_true false e = refl
 
+-- a text of blanks has no words
+pub words_of-blanks : (text rest : List ℕ) → rest ≡ from_on is_non_blank text → length rest ≡ 0 → words_of text ≡ []
+words_of-blanks text [] r e = sym (words_of-skip text) ∙ ap words_of (sym r)
+words_of-blanks text (b ∷ bs) r e = absurd (omega arith)
+
+-- the first word of a text after the blanks in front of it, and the words after it
+pub words_of-first : (text rest word after : List ℕ) → rest ≡ from_on is_non_blank text → 0 < length rest → is_non_blank (get_or rest 0 0) ≡ true → word ≡ until is_blank rest → after ≡ from_on is_blank rest →
+    words_of text ≡ word ∷ words_of after
+words_of-first text [] word after r lt n w a = absurd (omega arith)
+words_of-first text (b ∷ bs) word after r lt n w a =
+    sym (words_of-skip text) ∙ ap words_of (sym r) ∙ words_of-cut b bs (not_true (is_blank b) n) ∙ (λ i. sym w i ∷ words_of (sym a i))
+
 -- a loop's step: one more word
 pub words_more : (words items rest : List (List ℕ)) (text word after next : List ℕ) → items ≡ words ++ word ∷ [] → 0 < length text → is_non_blank (get_or text 0 0) ≡ true →
     word ≡ until is_blank text → after ≡ from_on is_blank text → next ≡ from_on is_non_blank after → words ++ words_of text ≡ rest → items ++ words_of next ≡ rest

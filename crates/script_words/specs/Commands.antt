@@ -131,6 +131,43 @@ spares_line_of words = do
   n ← number_at words 1
   Some (c.Spares n)
 
+-- `field n`
+unfoldable pub field_of : List (List ℕ) → Option Command
+field_of words = do
+  n ← number_at words 1
+  Some (c.Field n)
+
+-- `ptran M N ALPHA A IA JA BETA C IC JC`
+unfoldable pub ptran_of : List (List ℕ) → Option Command
+ptran_of words = do
+  m ← number_at words 1
+  n ← number_at words 2
+  alpha ← number_at words 3
+  ia ← number_at words 5
+  ja ← number_at words 6
+  beta ← number_at words 7
+  ic ← number_at words 9
+  jc ← number_at words 10
+  Some (c.Ptran m n alpha (word_at words 4) ia ja beta (word_at words 8) ic jc)
+
+-- `pgetri N A IA JA V B IB JB`
+unfoldable pub pgetri_of : List (List ℕ) → Option Command
+pgetri_of words = do
+  n ← number_at words 1
+  ia ← number_at words 3
+  ja ← number_at words 4
+  ib ← number_at words 7
+  jb ← number_at words 8
+  Some (c.Pgetri n (word_at words 2) ia ja (word_at words 5) (word_at words 6) ib jb)
+
+-- `flip A I J X`
+unfoldable pub flip_of : List (List ℕ) → Option Command
+flip_of words = do
+  i ← number_at words 2
+  j ← number_at words 3
+  x ← number_at words 4
+  Some (c.Flip (word_at words 1) i j x)
+
 -- the command of a line, by its first word
 unfoldable pub command_as : Option CommandWord → List (List ℕ) → Option Command
 command_as (Some w.Grid) words = grid_of words
@@ -148,6 +185,11 @@ command_as (Some w.Links) words = links_of words
 command_as (Some w.Order) words = order_of words
 command_as (Some w.Lose) words = lose_of words
 command_as (Some w.Spares) words = spares_line_of words
+command_as (Some w.Field) words = field_of words
+command_as (Some w.Ptran) words = ptran_of words
+command_as (Some w.Pgetri) words = pgetri_of words
+command_as (Some w.Flip) words = flip_of words
+command_as (Some w.Pverify) words = Some (c.Pverify (word_at words 1))
 command_as None words = None
 
 -- the command that a line spells; a line without words has none

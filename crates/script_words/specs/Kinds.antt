@@ -11,12 +11,14 @@ use Rattle.script_words.specs.declared.kinds.Kind.TheVariants.{NewName, GridName
 abbrev pub own_words : List (List ℕ × CommandWord)
 own_words =
     (codes "grid", w.Grid) ∷ (codes "matrix", w.Matrix) ∷ (codes "print", w.Print) ∷ (codes "pivots", w.Pivots) ∷ (codes "drop", w.Discard)
-    ∷ (codes "topology", w.Topology) ∷ (codes "links", w.Links) ∷ (codes "order", w.Order) ∷ (codes "lose", w.Lose) ∷ (codes "spares", w.Spares) ∷ []
+    ∷ (codes "topology", w.Topology) ∷ (codes "links", w.Links) ∷ (codes "order", w.Order) ∷ (codes "lose", w.Lose) ∷ (codes "spares", w.Spares)
+    ∷ (codes "field", w.Field) ∷ (codes "flip", w.Flip) ∷ []
 
 -- the routines of the library
 abbrev pub routine_words : List (List ℕ × CommandWord)
 routine_words =
-    (codes "pgemm", w.Pgemm) ∷ (codes "ptrsm", w.Ptrsm) ∷ (codes "pgetrf", w.Pgetrf) ∷ (codes "pgetrs", w.Pgetrs) ∷ (codes "pgemr2d", w.Pgemr2d) ∷ []
+    (codes "pgemm", w.Pgemm) ∷ (codes "ptrsm", w.Ptrsm) ∷ (codes "pgetrf", w.Pgetrf) ∷ (codes "pgetrs", w.Pgetrs) ∷ (codes "pgemr2d", w.Pgemr2d)
+    ∷ (codes "ptran", w.Ptran) ∷ (codes "pgetri", w.Pgetri) ∷ (codes "pverify", w.Pverify) ∷ []
 
 -- the command that a table has at a word
 abbrev pub command_in : List (List ℕ × CommandWord) → List ℕ → Option CommandWord
@@ -45,6 +47,11 @@ kinds_of w.Links = Number ∷ []
 kinds_of w.Order = Number ∷ []
 kinds_of w.Lose = Number ∷ Number ∷ []
 kinds_of w.Spares = Number ∷ []
+kinds_of w.Field = Number ∷ []
+kinds_of w.Ptran = Number ∷ Number ∷ Number ∷ MatrixName ∷ Number ∷ Number ∷ Number ∷ MatrixName ∷ Number ∷ Number ∷ []
+kinds_of w.Pgetri = Number ∷ MatrixName ∷ Number ∷ Number ∷ ListName ∷ MatrixName ∷ Number ∷ Number ∷ []
+kinds_of w.Flip = MatrixName ∷ Number ∷ Number ∷ Number ∷ []
+kinds_of w.Pverify = MatrixName ∷ []
 
 -- whether further words may follow, of the last one's kind
 abbrev pub takes_more : CommandWord → Bool

@@ -33,10 +33,6 @@ orders_limit = 65536
 abbrev pub spares_limit : ℕ
 spares_limit = 4096
 
--- a scalar of a routine
-abbrev pub scalar_limit : ℕ
-scalar_limit = 65536
-
 -- the bound on the records of a script
 abbrev pub record_limit : ℕ
 record_limit = 4194304

@@ -1,11 +1,13 @@
 //! The lines of a script as commands.
 ghost use Rattle.std.specs.Prelude.{◌≡◌, IfOk, map};
 ghost use Rattle.script_words.specs.Kinds.{command_word};
-ghost use Rattle.script_words.specs.Commands.{word_at, number_at, grid_of, matrix_of, links_of, numbers_of, order_of, lose_of, spares_line_of, command_as, command_of};
+ghost use Rattle.script_words.specs.Commands.{word_at, number_at, grid_of, matrix_of, links_of, numbers_of, order_of, lose_of, spares_line_of, field_of, flip_of, command_as, command_of};
 
 use crate::kinds::{CommandWord, command_word};
 use crate::numbers::number_of;
-use crate::routine_lines::{pgemm_of, pgemr2d_of, pgetrf_of, pgetrs_of, ptrsm_of};
+use crate::routine_lines::{
+    pgemm_of, pgemr2d_of, pgetrf_of, pgetri_of, pgetrs_of, ptran_of, ptrsm_of,
+};
 use run_data::{Command, IndexList, Word};
 use std::alloc::{AllocError as NoMemory, Global};
 
@@ -129,6 +131,26 @@ fn spares_line_of(words: &[Word]) -> Option<Command>
     Some(Command::Spares { n })
 }
 
+#[tactic(auto, unfolding(crate::specs::Commands::field_of))]
+fn field_of(words: &[Word]) -> Option<Command>
+    ensures { result ≡ field_of words.now }
+{
+    let n = number_at(words, 1)?;
+    Some(Command::Field { n })
+}
+
+#[tactic(auto, unfolding(crate::specs::Commands::flip_of))]
+fn flip_of(alloc: Global, words: &[Word]) -> Result<Option<Command>, NoMemory>
+    ensures { IfOk result (λ c. c ≡ flip_of words.now) }
+{
+    let Some(numbers) = numbers_at(words, [2, 3, 4]) else {
+        return Ok(None);
+    };
+    let [i, j, x] = numbers;
+    let name = word_at(alloc, words, 1)?;
+    Ok(Some(Command::Flip { name, i, j, x }))
+}
+
 // The numbers that words are, if all of them are numbers.
 fn numbers_of(alloc: Global, words: &[Word]) -> Result<Option<IndexList>, NoMemory>
     ensures { IfOk result (λ ns. ns ≡ numbers_of words.now) }
@@ -193,6 +215,14 @@ fn command_as(
         Some(CommandWord::Order) => order_of(alloc, words),
         Some(CommandWord::Lose) => Ok(lose_of(words)),
         Some(CommandWord::Spares) => Ok(spares_line_of(words)),
+        Some(CommandWord::Field) => Ok(field_of(words)),
+        Some(CommandWord::Ptran) => ptran_of(alloc, words),
+        Some(CommandWord::Pgetri) => pgetri_of(alloc, words),
+        Some(CommandWord::Flip) => flip_of(alloc, words),
+        Some(CommandWord::Pverify) => {
+            let name = word_at(alloc, words, 1)?;
+            Ok(Some(Command::Pverify { name }))
+        }
         None => Ok(None),
     }
 }

@@ -21,6 +21,11 @@ pub enum CommandWord {
     Order,
     Lose,
     Spares,
+    Field,
+    Ptran,
+    Pgetri,
+    Flip,
+    Pverify,
 }
 
 /// What a word of a line stands for.
@@ -126,7 +131,31 @@ static PGEMR2D: [Kind; 9] = [
     Kind::Letter,
 ];
 
-static PRINT: [Kind; 1] = [Kind::MatrixName];
+static PTRAN: [Kind; 10] = [
+    Kind::Number,
+    Kind::Number,
+    Kind::Number,
+    Kind::MatrixName,
+    Kind::Number,
+    Kind::Number,
+    Kind::Number,
+    Kind::MatrixName,
+    Kind::Number,
+    Kind::Number,
+];
+
+static PGETRI: [Kind; 8] = [
+    Kind::Number,
+    Kind::MatrixName,
+    Kind::Number,
+    Kind::Number,
+    Kind::ListName,
+    Kind::MatrixName,
+    Kind::Number,
+    Kind::Number,
+];
+
+static MATRIX_NAME: [Kind; 1] = [Kind::MatrixName];
 
 static PIVOTS: [Kind; 1] = [Kind::ListName];
 
@@ -137,6 +166,8 @@ static LETTER: [Kind; 1] = [Kind::Letter];
 static NUMBER: [Kind; 1] = [Kind::Number];
 
 static LOSE: [Kind; 2] = [Kind::Number, Kind::Number];
+
+static FLIP: [Kind; 4] = [Kind::MatrixName, Kind::Number, Kind::Number, Kind::Number];
 
 impl CommandWord {
     /// What the words after the first stand for.
@@ -151,7 +182,7 @@ impl CommandWord {
             CommandWord::Pgetrf => &PGETRF,
             CommandWord::Pgetrs => &PGETRS,
             CommandWord::Pgemr2d => &PGEMR2D,
-            CommandWord::Print => &PRINT,
+            CommandWord::Print => &MATRIX_NAME,
             CommandWord::Pivots => &PIVOTS,
             CommandWord::Discard => &DROP,
             CommandWord::Topology => &LETTER,
@@ -159,6 +190,11 @@ impl CommandWord {
             CommandWord::Order => &NUMBER,
             CommandWord::Lose => &LOSE,
             CommandWord::Spares => &NUMBER,
+            CommandWord::Field => &NUMBER,
+            CommandWord::Ptran => &PTRAN,
+            CommandWord::Pgetri => &PGETRI,
+            CommandWord::Flip => &FLIP,
+            CommandWord::Pverify => &MATRIX_NAME,
         }
     }
 
@@ -213,6 +249,10 @@ fn own_word(word: &[u8]) -> Option<CommandWord>
         Some(CommandWord::Lose)
     } else if is_word(word, b"spares") {
         Some(CommandWord::Spares)
+    } else if is_word(word, b"field") {
+        Some(CommandWord::Field)
+    } else if is_word(word, b"flip") {
+        Some(CommandWord::Flip)
     } else {
         None
     }
@@ -232,6 +272,12 @@ fn routine_word(word: &[u8]) -> Option<CommandWord>
         Some(CommandWord::Pgetrs)
     } else if is_word(word, b"pgemr2d") {
         Some(CommandWord::Pgemr2d)
+    } else if is_word(word, b"ptran") {
+        Some(CommandWord::Ptran)
+    } else if is_word(word, b"pgetri") {
+        Some(CommandWord::Pgetri)
+    } else if is_word(word, b"pverify") {
+        Some(CommandWord::Pverify)
     } else {
         None
     }

@@ -1,5 +1,5 @@
 //! Lines and words of a text.
-ghost use Rattle.std.specs.Prelude.{◌≡◌, ◌+◌, ◌≤◌, ◌<◌, ◌++◌, ◌∷◌, [], true, drop, length, slice_index, IfOk};
+ghost use Rattle.std.specs.Prelude.{◌≡◌, ◌+◌, ◌≤◌, ◌<◌, ◌++◌, ◌∷◌, [], true, drop, length, slice_index, IfOk, IfNone, IfSome};
 ghost use Rattle.std.specs.Str.Lines.{strip_carriage_return};
 ghost use Rattle.script_words.specs.Lines.{is_blank, until, from_on, stops_at, words_of, line_words};
 
@@ -85,10 +85,43 @@ fn words_in(alloc: Global, text: &[u8]) -> Result<Vec<Word>, NoMemory>
     Ok(words)
 }
 
+/// What stands in a line before `#`, without a carriage return at its end: the words of the line are those of this text.
+pub fn line_text(line: &[u8]) -> &[u8]
+    ensures { words_of result.now ≡ line_words line.now }
+{
+    let (text, _) = cut(without_return(line), Stop::Hash);
+    text
+}
+
 /// The words of a line.
 pub fn line_words(alloc: Global, line: &[u8]) -> Result<Vec<Word>, NoMemory>
     ensures { IfOk result (λ v. v.items ≡ line_words line.now) }
 {
-    let (text, _) = cut(without_return(line), Stop::Hash);
-    words_in(alloc, text)
+    words_in(alloc, line_text(line))
+}
+
+/// The first word of a text, if it has one, and what stands after it.
+pub fn next_word(text: &[u8]) -> Option<(&[u8], &[u8])>
+    ensures none { IfNone result (words_of text.now ≡ []) }
+    ensures some { IfSome result (λ parts. words_of text.now ≡ parts.0.now ∷ words_of parts.1.now) }
+    ensures shorter { IfSome result (λ parts. length parts.1.now < length text.now) }
+{
+    let (_, rest) = cut(text, Stop::NonBlank);
+    if rest.is_empty() {
+        return None;
+    }
+    Some(cut(rest, Stop::Blank))
+}
+
+/// The number of words of a text.
+pub fn word_count(text: &[u8]) -> usize
+    ensures { result ≡ length (words_of text.now) }
+{
+    let mut count = 0;
+    let mut rest = text;
+    while let Some((_, after)) = next_word(rest) {
+        count += 1;
+        rest = after;
+    }
+    count
 }

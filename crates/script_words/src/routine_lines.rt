@@ -1,6 +1,6 @@
 //! The lines of the routines as commands.
 ghost use Rattle.std.specs.Prelude.{◌≡◌, IfOk};
-ghost use Rattle.script_words.specs.Commands.{word_at, pgemm_of, ptrsm_of, pgetrf_of, pgetrs_of, pgemr2d_of};
+ghost use Rattle.script_words.specs.Commands.{word_at, pgemm_of, ptrsm_of, pgetrf_of, pgetrs_of, pgemr2d_of, ptran_of, pgetri_of};
 
 use crate::commands::{numbers_at, pair_at, triple_at, word_at};
 use run_data::{Command, Word};
@@ -123,5 +123,51 @@ pub fn pgemr2d_of(alloc: Global, words: &[Word]) -> Result<Option<Command>, NoMe
         ib,
         jb,
         ctxt,
+    }))
+}
+
+/// `ptran M N ALPHA A IA JA BETA C IC JC`
+#[tactic(auto, unfolding(crate::specs::Commands::ptran_of))]
+pub fn ptran_of(alloc: Global, words: &[Word]) -> Result<Option<Command>, NoMemory>
+    ensures { IfOk result (λ c. c ≡ ptran_of words.now) }
+{
+    let Some(numbers) = numbers_at(words, [1, 2, 3, 5, 6, 7, 9, 10]) else {
+        return Ok(None);
+    };
+    let [m, n, alpha, ia, ja, beta, ic, jc] = numbers;
+    let (a, c) = pair_at(alloc, words, 4, 8)?;
+    Ok(Some(Command::Ptran {
+        m,
+        n,
+        alpha,
+        a,
+        ia,
+        ja,
+        beta,
+        c,
+        ic,
+        jc,
+    }))
+}
+
+/// `pgetri N A IA JA V B IB JB`
+#[tactic(auto, unfolding(crate::specs::Commands::pgetri_of))]
+pub fn pgetri_of(alloc: Global, words: &[Word]) -> Result<Option<Command>, NoMemory>
+    ensures { IfOk result (λ c. c ≡ pgetri_of words.now) }
+{
+    let Some(numbers) = numbers_at(words, [1, 3, 4, 7, 8]) else {
+        return Ok(None);
+    };
+    let [n, ia, ja, ib, jb] = numbers;
+    let (a, v, b) = triple_at(alloc, words, 2, 5, 6)?;
+    Ok(Some(Command::Pgetri {
+        n,
+        a,
+        ia,
+        ja,
+        v,
+        b,
+        ib,
+        jb,
     }))
 }

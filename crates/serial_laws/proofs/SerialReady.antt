@@ -1,5 +1,5 @@
 -- An accepted script with its files can be run serially.
-use Rattle.std.proofs.Common.{◌≡◌, ℕ, ◌+◌, ◌-◌, ◌*◌, ◌%◌, ◌<◌, ◌≤◌, ◌^◌, Bool, true, false, List, [], ◌∷◌, length, Option, Some, None, min, refl, sym, ap, subst, ◌∙◌, arith}
+use Rattle.std.proofs.Common.{◌≡◌, ℕ, ◌+◌, ◌-◌, ◌*◌, ◌%◌, ◌<◌, ◌≤◌, ◌^◌, Bool, true, false, not, List, [], ◌∷◌, length, Option, Some, None, min, refl, sym, ap, subst, ◌∙◌, arith}
 use Rattle.std.specs.Prelude.{if◌then◌else◌, ◌==◌}
 use Rattle.std.specs.Str.{bytes_eq, IsUtf8}
 use Rattle.std.proofs.lemmas.Bool.{false≢true, false_from_ne_true}
@@ -10,14 +10,15 @@ use Rattle.run_data.specs.Parts.{IsWithin}
 use Rattle.run_data.proofs.Matrices.{rows-tabulate, cols-tabulate}
 use Rattle.run_data.specs.declared.command.Command.{Command}
 use Rattle.run_data.specs.declared.command.Command.TheVariants as c
-use Rattle.run_data.specs.Script.{Numbered, commands_of, command_at, maker_after, maker}
+use Rattle.run_data.specs.Script.{Numbered, commands_of, command_at, maker_after, maker, modulus_of}
 use Rattle.rank_machine.specs.Scripts.{Matrices, file_of}
 use Rattle.elimination.specs.Whole.{AreRows}
 use Rattle.elimination.proofs.Numbers.{elimination-count, elimination-rows}
 use Rattle.serial_model.specs.Elimination.{eliminated_matrix}
 use Rattle.serial_model.specs.Solves.{product_of, solved_column, solved_with_factors, solved_unless, first_zero, triangle_solved, factors_solved, window, window_copied}
+use Rattle.serial_model.specs.Transposes.{transposed, identity_matrix, identity_word, left_solved, turned, side_solved, transposed_solved, trans_solved, transpose_added, inverted}
 use Rattle.serial_model.specs.Serial as model
-use Rattle.serial_model.specs.Serial.{Values, with_value, matrix_in, list_in, is_lower, is_unit, factored, solved_by_triangle, solved_by_factors, values_under}
+use Rattle.serial_model.specs.Serial.{Values, with_value, matrix_in, list_in, is_lower, is_unit, is_left, is_transposed, factored, solved_by_triangle, solved_by_factors, inverted_by_factors, values_under, no_values}
 use Rattle.serial_machine.specs.Values.{IsMatrix}
 use Rattle.serial_machine.specs.Ready.{IsShort, HasMatrix, CanPrint, AreReady, CanRun}
 use Rattle.serial_machine.specs.Ready as ready
@@ -25,7 +26,7 @@ use Rattle.script_rules.specs.Rules.{command_on, maker_command, is_matrix_line, 
 use Rattle.script_recovery.proofs.GridsAt.{LinesRise, commands-rise}
 use Rattle.serial_laws.proofs.CommandsLeft.{IsLeft, all_left, next_left, maker-here}
 use Rattle.script_run.proofs.EachCommand.{AreThere, there-all, there-first, there-later}
-use Rattle.serial_laws.specs.Files.{HasFile}
+use Rattle.serial_laws.specs.Files.{HasSizedFile}
 
 -- ---- what values fit the lines that made them
 -- the rows and the columns of the matrix that a line made, or of the one that it factored
@@ -71,8 +72,8 @@ pub record AsksProduct (ns : List Numbered) (line alpha : ℕ) (a b : List ℕ) 
   pub changed : is_matrix_line (maker_command ns line x) ≡ true
   pub not_left : bytes_eq x a ≡ false
   pub not_right : bytes_eq x b ≡ false
-  pub alpha_below : alpha < 65537
-  pub beta_below : beta < 65537
+  pub alpha_below : alpha < (modulus_of ns)
+  pub beta_below : beta < (modulus_of ns)
   pub rows : rows_made (maker_command ns line a) ≡ rows_made (maker_command ns line x)
   pub columns : columns_made (maker_command ns line b) ≡ columns_made (maker_command ns line x)
   pub inner : columns_made (maker_command ns line a) ≡ rows_made (maker_command ns line b)
@@ -82,11 +83,11 @@ pub record AsksSystem (ns : List Numbered) (line : ℕ) (a b : List ℕ) : Type 
   pub right_side : is_matrix_line (maker_command ns line b) ≡ true
   pub other : bytes_eq b a ≡ false
   pub square : columns_made (maker_command ns line a) ≡ rows_made (maker_command ns line a)
-  pub rows : rows_made (maker_command ns line b) ≡ rows_made (maker_command ns line a)
 
-pub record AsksTriangle (ns : List Numbered) (line alpha : ℕ) (a b : List ℕ) : Type 0 where
+pub record AsksTriangle (ns : List Numbered) (line : ℕ) (left : Bool) (alpha : ℕ) (a b : List ℕ) : Type 0 where
   pub system : AsksSystem ns line a b
-  pub alpha_below : alpha < 65537
+  pub size : (if left then rows_made (maker_command ns line b) else columns_made (maker_command ns line b)) ≡ rows_made (maker_command ns line a)
+  pub alpha_below : alpha < (modulus_of ns)
   pub named : IsUtf8 b
 
 pub record AsksFactor (ns : List Numbered) (line m n : ℕ) (a : List ℕ) : Type 0 where
@@ -98,10 +99,25 @@ pub record AsksFactor (ns : List Numbered) (line m n : ℕ) (a : List ℕ) : Typ
 
 pub record AsksSolve (ns : List Numbered) (line : ℕ) (a v b : List ℕ) : Type 0 where
   pub system : AsksSystem ns line a b
+  pub size : rows_made (maker_command ns line b) ≡ rows_made (maker_command ns line a)
   pub list : is_list_line (maker_command ns line v) ≡ true
   pub list_rows : rows_made (maker_command ns line v) ≡ rows_made (maker_command ns line a)
   pub list_columns : columns_made (maker_command ns line v) ≡ rows_made (maker_command ns line a)
   pub named : IsUtf8 b
+
+-- B is square too
+pub record AsksInverse (ns : List Numbered) (line : ℕ) (a v b : List ℕ) : Type 0 where
+  pub solve : AsksSolve ns line a v b
+  pub columns : columns_made (maker_command ns line b) ≡ rows_made (maker_command ns line a)
+
+pub record AsksTranspose (ns : List Numbered) (line alpha : ℕ) (a : List ℕ) (beta : ℕ) (x : List ℕ) : Type 0 where
+  pub source : is_matrix_line (maker_command ns line a) ≡ true
+  pub changed : is_matrix_line (maker_command ns line x) ≡ true
+  pub other : bytes_eq x a ≡ false
+  pub alpha_below : alpha < (modulus_of ns)
+  pub beta_below : beta < (modulus_of ns)
+  pub rows : rows_made (maker_command ns line a) ≡ columns_made (maker_command ns line x)
+  pub columns : columns_made (maker_command ns line a) ≡ rows_made (maker_command ns line x)
 
 pub record AsksCopy (ns : List Numbered) (line m n : ℕ) (a : List ℕ) (ia ja : ℕ) (b : List ℕ) (ib jb : ℕ) : Type 0 where
   pub source : is_matrix_line (maker_command ns line a) ≡ true
@@ -125,14 +141,17 @@ pub record AsksPivots (ns : List Numbered) (line : ℕ) (name : List ℕ) : Type
   pub named : IsUtf8 name
 
 abbrev pub Asks : List Numbered → Matrices → ℕ → Command → Type 0
-Asks ns files line (c.Matrix name grid m n mb nb rsrc csrc file) = HasFile m n files line
+Asks ns files line (c.Matrix name grid m n mb nb rsrc csrc file) = HasSizedFile (modulus_of ns) m n files line
 Asks ns files line (c.Pgemm transa transb m n k alpha a ia ja b ib jb beta x ic jc) = AsksProduct ns line alpha a b beta x
-Asks ns files line (c.Ptrsm side uplo transa diag m n alpha a ia ja b ib jb) = AsksTriangle ns line alpha a b
+Asks ns files line (c.Ptrsm side uplo transa diag m n alpha a ia ja b ib jb) = AsksTriangle ns line (is_left side) alpha a b
 Asks ns files line (c.Pgetrf m n a ia ja v) = AsksFactor ns line m n a
 Asks ns files line (c.Pgetrs trans n nrhs a ia ja v b ib jb) = AsksSolve ns line a v b
 Asks ns files line (c.Pgemr2d m n a ia ja b ib jb ctxt) = AsksCopy ns line m n a ia ja b ib jb
 Asks ns files line (c.Print name) = AsksPrint ns line name
 Asks ns files line (c.Pivots name) = AsksPivots ns line name
+Asks ns files line (c.Ptran m n alpha a ia ja beta x ic jc) = AsksTranspose ns line alpha a beta x
+Asks ns files line (c.Pgetri n a ia ja v b ib jb) = AsksInverse ns line a v b
+Asks ns files line (c.Pverify name) = AsksPrint ns line name
 Asks ns files line _ = Unit {0}
 
 -- ---- the value of a name
@@ -178,10 +197,9 @@ module _ (ns : List Numbered) (files : Matrices) (line : ℕ) (values : Values) 
         right_side = is_matrix r;
         other = asks.other;
         square = columns_in m ∙ asks.square ∙ sym (rows_in m);
-        rows = rows_in r ∙ asks.rows ∙ sym (rows_in m);
       }
 
-  product : (alpha : ℕ) (a b : List ℕ) (beta : ℕ) (x : List ℕ) → AsksProduct ns line alpha a b beta x → ready.CanMultiply 65537 values alpha a b beta x
+  product : (alpha : ℕ) (a b : List ℕ) (beta : ℕ) (x : List ℕ) → AsksProduct ns line alpha a b beta x → ready.CanMultiply (modulus_of ns) values alpha a b beta x
   product alpha a b beta x asks =
       let l = matrix_named a asks.left in
       let r = matrix_named b asks.right in
@@ -199,8 +217,28 @@ module _ (ns : List Numbered) (files : Matrices) (line : ℕ) (values : Values) 
         inner = columns_in l ∙ asks.inner ∙ sym (rows_in r);
       }
 
-  triangle : (alpha : ℕ) (a b : List ℕ) → AsksTriangle ns line alpha a b → ready.CanSolveTriangle 65537 values alpha a b
-  triangle alpha a b asks = record { system = system a b asks.system; alpha_below = asks.alpha_below; named = asks.named }
+  transpose : (alpha : ℕ) (a : List ℕ) (beta : ℕ) (x : List ℕ) → AsksTranspose ns line alpha a beta x → ready.CanTranspose (modulus_of ns) values alpha a beta x
+  transpose alpha a beta x asks =
+      let source = matrix_named a asks.source in
+      let changed = matrix_named x asks.changed in
+      record {
+        source = is_matrix source;
+        changed = is_matrix changed;
+        other = asks.other;
+        alpha_below = asks.alpha_below;
+        beta_below = asks.beta_below;
+        rows = rows_in source ∙ asks.rows ∙ sym (columns_in changed);
+        columns = columns_in source ∙ asks.columns ∙ sym (rows_in changed);
+      }
+
+  triangle : (left : Bool) (alpha : ℕ) (a b : List ℕ) → AsksTriangle ns line left alpha a b → ready.CanSolveTriangle (modulus_of ns) values left alpha a b
+  triangle left alpha a b asks =
+      record { system = system a b asks.system; size = by_side left asks.size ∙ sym (rows_in (matrix_named a asks.system.matrix)); alpha_below = asks.alpha_below; named = asks.named }
+    where
+      by_side : (l : Bool) → (if l then rows_made (maker_command ns line b) else columns_made (maker_command ns line b)) ≡ rows_made (maker_command ns line a)
+          → (if l then (matrix_in (values b)).rows else cols (matrix_in (values b))) ≡ rows_made (maker_command ns line a)
+      by_side true e = rows_in (matrix_named b asks.system.right_side) ∙ e
+      by_side false e = columns_in (matrix_named b asks.system.right_side) ∙ e
 
   factor : (m n : ℕ) (a : List ℕ) → AsksFactor ns line m n a → ready.CanFactor values a
   factor m n a asks = record { matrix = is_matrix (matrix_named a asks.matrix); named = asks.named }
@@ -228,6 +266,7 @@ module _ (ns : List Numbered) (files : Matrices) (line : ℕ) (values : Values) 
       let rows = rows_of_list (matrix_in (values a)).rows (rows_made (maker_command ns line v)) (columns_made (maker_command ns line v)) (values v) l (asks.list_rows ∙ sym size) (asks.list_columns ∙ sym size) in
       record {
         system = system a b asks.system;
+        size = rows_in (matrix_named b asks.system.right_side) ∙ asks.size ∙ sym size;
         list = (l.list, l.is);
         other = other_list v b asks.list asks.system.right_side;
         enough = rows.0;
@@ -267,13 +306,16 @@ module _ (ns : List Numbered) (files : Matrices) (line : ℕ) (values : Values) 
       let few : length h.list < 2 ^ 32 = omega (arith, count, short) in
       record { value = (model.rows h.list, h.is, few); named = asks.named }
 
-  file : (m n : ℕ) → HasFile m n files line → HasMatrix 65537 files line
+  verify : (name : List ℕ) → AsksPrint ns line name → ready.CanVerify values name
+  verify name asks = record { matrix = is_matrix (matrix_named name asks.matrix); named = asks.named }
+
+  file : (m n : ℕ) → HasSizedFile (modulus_of ns) m n files line → HasMatrix (modulus_of ns) files line
   file m n h = record { there = h.there; matrix = record { shaped = h.residues.shaped; words = h.residues.words } }
 
-  pub may_run : (command : Command) → Asks ns files line command → ready.IsReady 65537 files line command values
+  pub may_run : (command : Command) → Asks ns files line command → ready.CanRunLine (modulus_of ns) files line command values
   may_run (c.Matrix name grid m n mb nb rsrc csrc name_of_file) asks = file m n asks
   may_run (c.Pgemm transa transb m n k alpha a ia ja b ib jb beta x ic jc) asks = product alpha a b beta x asks
-  may_run (c.Ptrsm side uplo transa diag m n alpha a ia ja b ib jb) asks = triangle alpha a b asks
+  may_run (c.Ptrsm side uplo transa diag m n alpha a ia ja b ib jb) asks = triangle (is_left side) alpha a b asks
   may_run (c.Pgetrf m n a ia ja v) asks = factor m n a asks
   may_run (c.Pgetrs trans n nrhs a ia ja v b ib jb) asks = solve a v b asks
   may_run (c.Pgemr2d m n a ia ja b ib jb ctxt) asks = copy m n a ia ja b ib jb asks
@@ -286,6 +328,11 @@ module _ (ns : List Numbered) (files : Matrices) (line : ℕ) (values : Values) 
   may_run (c.Order numbers) asks = tt
   may_run (c.Lose at rank) asks = tt
   may_run (c.Spares n) asks = tt
+  may_run (c.Field n) asks = tt
+  may_run (c.Ptran m n alpha a ia ja beta x ic jc) asks = transpose alpha a beta x asks
+  may_run (c.Pgetri n a ia ja v b ib jb) asks = solve a v b asks.solve
+  may_run (c.Flip name i j x) asks = tt
+  may_run (c.Pverify name) asks = verify name asks
 
 -- ---- what names mean after the line
 rows-either : (t : Bool) (x y : Matrix) (m : ℕ) → x.rows ≡ m → y.rows ≡ m → (if t then x else y).rows ≡ m
@@ -313,8 +360,34 @@ shape-unless info b solve = record {
 shape-triangle : (p : ℕ) (inverse : ℕ → ℕ) (lower unit : Bool) (alpha : ℕ) (a b : Matrix) → SameShape (triangle_solved p inverse lower unit alpha a b).matrix b
 shape-triangle p inverse lower unit alpha a b = shape-unless (if unit then 0 else first_zero a) b (λ x. solved_column p inverse lower unit a.rows (entry a) (λ k. (x k * alpha) % p))
 
-shape-factors : (p : ℕ) (inverse : ℕ → ℕ) (a : Matrix) (v : List ℕ) (b : Matrix) → SameShape (factors_solved p inverse a v b).matrix b
-shape-factors p inverse a v b = shape-unless (first_zero a) b (solved_with_factors p inverse (entry a) v a.rows)
+shape-left : (p : ℕ) (inverse : ℕ → ℕ) (trans lower unit : Bool) (alpha : ℕ) (a b : Matrix) → SameShape (left_solved p inverse trans lower unit alpha a b).matrix b
+shape-left p inverse true lower unit alpha a b = shape-triangle p inverse (not lower) unit alpha (transposed a) b
+shape-left p inverse false lower unit alpha a b = shape-triangle p inverse lower unit alpha a b
+
+-- what is turned back has the shape that was turned
+shape-turned : (m b : Matrix) → SameShape m (transposed b) → SameShape (transposed m) b
+shape-turned m b same = record {
+  rows = rows-tabulate (cols m) m.rows (λ i j. entry m j i) ∙ same.columns ∙ cols-tabulate (cols b) b.rows (λ i j. entry b j i);
+  columns = cols-tabulate (cols m) m.rows (λ i j. entry m j i) ∙ same.rows ∙ rows-tabulate (cols b) b.rows (λ i j. entry b j i);
+}
+
+shape-side : (p : ℕ) (inverse : ℕ → ℕ) (left trans lower unit : Bool) (alpha : ℕ) (a b : Matrix) → SameShape (side_solved p inverse left trans lower unit alpha a b).matrix b
+shape-side p inverse true trans lower unit alpha a b = shape-left p inverse trans lower unit alpha a b
+shape-side p inverse false trans lower unit alpha a b =
+    shape-turned (left_solved p inverse (not trans) lower unit alpha a (transposed b)).matrix b (shape-left p inverse (not trans) lower unit alpha a (transposed b))
+
+shape-factors : (p : ℕ) (inverse : ℕ → ℕ) (trans : Bool) (a : Matrix) (v : List ℕ) (b : Matrix) → SameShape (trans_solved p inverse trans a v b).matrix b
+shape-factors p inverse trans a v b =
+    shape-unless (first_zero a) b (if trans then transposed_solved p inverse (entry a) v a.rows else solved_with_factors p inverse (entry a) v a.rows)
+
+shape-inverse : (p : ℕ) (inverse : ℕ → ℕ) (f : Matrix) (v : List ℕ) (b : Matrix) → f.rows ≡ b.rows → f.rows ≡ cols b → SameShape (inverted p inverse f v b).matrix b
+shape-inverse p inverse f v b er ec =
+    let solved = shape-unless (first_zero f) (identity_matrix f.rows) (solved_with_factors p inverse (entry f) v f.rows) in
+    let x = (factors_solved p inverse f v (identity_matrix f.rows)).matrix in
+    record {
+      rows = rows-either (first_zero f == 0) x b b.rows (solved.rows ∙ rows-tabulate f.rows f.rows identity_word ∙ er) refl;
+      columns = columns-either (first_zero f == 0) x b (cols b) (solved.columns ∙ cols-tabulate f.rows f.rows identity_word ∙ ec) refl;
+    }
 
 changed_fits : (o : Option Command) (old : Option model.Value) (new : Matrix) → is_matrix_line o ≡ true → SameShape new (matrix_in old) → Fits o old → Fits o (Some (model.whole new))
 changed_fits (Some (c.Matrix name grid m n mb nb rsrc csrc file)) old new made same fits =
@@ -359,15 +432,15 @@ module _ (ns : List Numbered) (known : List ℕ → Option ℕ) (values : Values
       by_test false = fits name
 
 module _ (ns : List Numbered) (files : Matrices) (line : ℕ) (values : Values) (fits : AllFit ns (maker ns line) values) where
-  factored_fits : (m n : ℕ) (a : List ℕ) → AsksFactor ns line m n a → IsListOf m n (Some (model.rows (factored 65537 (inverse 65537) values a).pivots))
+  factored_fits : (m n : ℕ) (a : List ℕ) → AsksFactor ns line m n a → IsListOf m n (Some (model.rows (factored (modulus_of ns) (inverse (modulus_of ns)) values a).pivots))
   factored_fits m n a asks =
       let x = matrix_in (values a) in
       let h = matrix_named ns files line values fits a asks.matrix in
       let er : x.rows ≡ m = rows_in h ∙ sym asks.rows in
       let ec : cols x ≡ n = columns_in h ∙ sym asks.columns in
-      let list = (factored 65537 (inverse 65537) values a).pivots in
-      let count = elimination-count 65537 (inverse 65537) x.rows (cols x) (entry x) in
-      let rows = elimination-rows 65537 (inverse 65537) x.rows (cols x) (entry x) in
+      let list = (factored (modulus_of ns) (inverse (modulus_of ns)) values a).pivots in
+      let count = elimination-count (modulus_of ns) (inverse (modulus_of ns)) x.rows (cols x) (entry x) in
+      let rows = elimination-rows (modulus_of ns) (inverse (modulus_of ns)) x.rows (cols x) (entry x) in
       record {
         list = list;
         is = refl;
@@ -377,22 +450,22 @@ module _ (ns : List Numbered) (files : Matrices) (line : ℕ) (values : Values) 
       }
 
   pub next_fits : (command : Command) → command_at ns line ≡ Some command → Asks ns files line command
-      → AllFit ns (λ name. maker_after (record { line = line; command = command }) name (maker ns line name)) (values_under 65537 (inverse 65537) (file_of files) line command values)
+      → AllFit ns (λ name. maker_after (record { line = line; command = command }) name (maker ns line name)) (values_under (modulus_of ns) (inverse (modulus_of ns)) (file_of files) line command values)
   next_fits (c.Matrix made grid m n mb nb rsrc csrc file) e asks =
       with_made ns (maker ns line) values fits made line (Some (model.whole (file_of files line))) values fits
       (subst (λ o. Fits o (Some (model.whole (file_of files line)))) (sym e) (record { matrix = file_of files line; is = refl; rows = asks.residues.rows; columns = asks.residues.columns }))
   next_fits (c.Pgemm transa transb m n k alpha a ia ja b ib jb beta x ic jc) e asks =
-      with_changed ns (maker ns line) values fits x (product_of 65537 alpha (matrix_in (values a)) (matrix_in (values b)) beta (matrix_in (values x))) asks.changed (shape-tabulate (matrix_in (values x)) _)
+      with_changed ns (maker ns line) values fits x (product_of (modulus_of ns) alpha (matrix_in (values a)) (matrix_in (values b)) beta (matrix_in (values x))) asks.changed (shape-tabulate (matrix_in (values x)) _)
   next_fits (c.Ptrsm side uplo transa diag m n alpha a ia ja b ib jb) e asks =
-      with_changed ns (maker ns line) values fits b (solved_by_triangle 65537 (inverse 65537) values uplo diag alpha a b).matrix asks.system.right_side
-      (shape-triangle 65537 (inverse 65537) (is_lower uplo) (is_unit diag) alpha (matrix_in (values a)) (matrix_in (values b)))
+      with_changed ns (maker ns line) values fits b (solved_by_triangle (modulus_of ns) (inverse (modulus_of ns)) values side uplo transa diag alpha a b).matrix asks.system.right_side
+      (shape-side (modulus_of ns) (inverse (modulus_of ns)) (is_left side) (is_transposed transa) (is_lower uplo) (is_unit diag) alpha (matrix_in (values a)) (matrix_in (values b)))
   next_fits (c.Pgetrf m n a ia ja v) e asks =
-      with_made ns (maker ns line) values fits v line (Some (model.rows (factored 65537 (inverse 65537) values a).pivots)) (with_value values a (Some (model.whole (eliminated_matrix 65537 (inverse 65537) (matrix_in (values a))))))
-      (with_changed ns (maker ns line) values fits a (eliminated_matrix 65537 (inverse 65537) (matrix_in (values a))) asks.matrix (shape-tabulate (matrix_in (values a)) _))
-      (subst (λ o. Fits o (Some (model.rows (factored 65537 (inverse 65537) values a).pivots))) (sym e) (factored_fits m n a asks))
+      with_made ns (maker ns line) values fits v line (Some (model.rows (factored (modulus_of ns) (inverse (modulus_of ns)) values a).pivots)) (with_value values a (Some (model.whole (eliminated_matrix (modulus_of ns) (inverse (modulus_of ns)) (matrix_in (values a))))))
+      (with_changed ns (maker ns line) values fits a (eliminated_matrix (modulus_of ns) (inverse (modulus_of ns)) (matrix_in (values a))) asks.matrix (shape-tabulate (matrix_in (values a)) _))
+      (subst (λ o. Fits o (Some (model.rows (factored (modulus_of ns) (inverse (modulus_of ns)) values a).pivots))) (sym e) (factored_fits m n a asks))
   next_fits (c.Pgetrs trans n nrhs a ia ja v b ib jb) e asks =
-      with_changed ns (maker ns line) values fits b (solved_by_factors 65537 (inverse 65537) values a v b).matrix asks.system.right_side
-      (shape-factors 65537 (inverse 65537) (matrix_in (values a)) (list_in (values v)) (matrix_in (values b)))
+      with_changed ns (maker ns line) values fits b (solved_by_factors (modulus_of ns) (inverse (modulus_of ns)) values trans a v b).matrix asks.system.right_side
+      (shape-factors (modulus_of ns) (inverse (modulus_of ns)) (is_transposed trans) (matrix_in (values a)) (list_in (values v)) (matrix_in (values b)))
   next_fits (c.Pgemr2d m n a ia ja b ib jb ctxt) e asks =
       with_changed ns (maker ns line) values fits b (window_copied m n (matrix_in (values a)) ia ja (matrix_in (values b)) ib jb) asks.changed (shape-tabulate (matrix_in (values b)) _)
   next_fits (c.Discard name) e asks = with_dropped ns (maker ns line) values fits name
@@ -404,11 +477,22 @@ module _ (ns : List Numbered) (files : Matrices) (line : ℕ) (values : Values) 
   next_fits (c.Order numbers) e asks = fits
   next_fits (c.Lose at rank) e asks = fits
   next_fits (c.Spares n) e asks = fits
+  next_fits (c.Field n) e asks = fits
+  next_fits (c.Ptran m n alpha a ia ja beta x ic jc) e asks =
+      with_changed ns (maker ns line) values fits x (transpose_added (modulus_of ns) alpha (matrix_in (values a)) beta (matrix_in (values x))) asks.changed (shape-tabulate (matrix_in (values x)) _)
+  next_fits (c.Pgetri n a ia ja v b ib jb) e asks =
+      let source = matrix_named ns files line values fits a asks.solve.system.matrix in
+      let changed = matrix_named ns files line values fits b asks.solve.system.right_side in
+      with_changed ns (maker ns line) values fits b (inverted_by_factors (modulus_of ns) (inverse (modulus_of ns)) values a v b).matrix asks.solve.system.right_side
+      (shape-inverse (modulus_of ns) (inverse (modulus_of ns)) (matrix_in (values a)) (list_in (values v)) (matrix_in (values b))
+      (rows_in source ∙ sym asks.solve.size ∙ sym (rows_in changed)) (rows_in source ∙ sym asks.columns ∙ sym (columns_in changed)))
+  next_fits (c.Flip name i j x) e asks = fits
+  next_fits (c.Pverify name) e asks = fits
 
 -- ---- all lines
 module _ (script : List (Option Command)) (files : Matrices) (asked : (line : ℕ) (command : Command) → command_at (commands_of script) line ≡ Some command → Asks (commands_of script) files line command) where
   ready_from : (more : List Numbered) (bound : ℕ) (known : List ℕ → Option ℕ) (values : Values) → LinesRise bound more → IsLeft (commands_of script) more bound known → AreThere (commands_of script) more
-      → AllFit (commands_of script) known values → AreReady 65537 (inverse 65537) files more values
+      → AllFit (commands_of script) known values → AreReady (modulus_of (commands_of script)) (inverse (modulus_of (commands_of script))) files more values
   ready_from [] bound known values rise left there fits = tt
   ready_from (n ∷ more) bound known values rise left there fits =
       let ns : List Numbered = commands_of script in
@@ -416,11 +500,11 @@ module _ (script : List (Option Command)) (files : Matrices) (asked : (line : �
       let here : AllFit ns (maker ns n.line) values = λ name. subst (λ o. Fits (command_on ns o) (values name)) (sym (same name)) (fits name) in
       let is : command_at ns n.line ≡ Some n.command = there-first ns more n there in
       let asks : Asks ns files n.line n.command = asked n.line n.command is in
-      let later : Values = values_under 65537 (inverse 65537) (file_of files) n.line n.command values in (
+      let later : Values = values_under (modulus_of (commands_of script)) (inverse (modulus_of (commands_of script))) (file_of files) n.line n.command values in (
         may_run ns files n.line values here n.command asks,
         ready_from more n.line (λ name. maker_after n name (known name)) later rise.1 (next_left ns more n bound known rise left) (there-later ns more n there)
             (λ name. subst (λ o. Fits (command_on ns (maker_after n name o)) (later name)) (same name) (next_fits ns files n.line values here n.command is asks name)),
       )
 
-  pub ready_all : AreReady 65537 (inverse 65537) files (commands_of script) (λ name. None)
-  ready_all = ready_from (commands_of script) 0 (λ name. None) (λ name. None) (commands-rise script) (all_left (commands_of script)) (there-all script) (λ name. tt)
+  pub ready_all : AreReady (modulus_of (commands_of script)) (inverse (modulus_of (commands_of script))) files (commands_of script) no_values
+  ready_all = ready_from (commands_of script) 0 (λ name. None) no_values (commands-rise script) (all_left (commands_of script)) (there-all script) (λ name. tt)

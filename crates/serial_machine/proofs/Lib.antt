@@ -4,3 +4,8 @@ mod Whole
 mod Keeping
 mod Running
 mod Names
+mod Errors
+mod Ones
+mod Inverting
+mod Turned
+mod Backward

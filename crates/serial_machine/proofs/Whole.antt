@@ -38,6 +38,10 @@ with_whole a f =
     tabulate-same a.rows (cols a) _ f
     (λ i j hi hj. sym (entry-tabulate a.rows (cols a) _ i j hi hj) ∙ entry-with_part_inside a (whole_part a) f i j (IsWithin-whole a a (whole_part a) refl refl refl) (omega arith) hi (omega arith) hj)
 
+-- all of a matrix written anew
+pub whole_filled : (a b : Matrix) (at : Part) (f : ℕ → ℕ → ℕ) → at ≡ whole_part a → b ≡ with_part a at f → b ≡ tabulate a.rows (cols a) f
+whole_filled a b at f e made = made ∙ ap (λ (p : Part). with_part a p f) e ∙ with_whole a f
+
 same_whole : (a b : Matrix) → a.rows ≡ b.rows → cols a ≡ cols b → whole_part a ≡ whole_part b
 same_whole a b rows columns = λ t. record { r0 = 0; r1 = rows t; c0 = 0; c1 = columns t }
 
@@ -192,7 +196,7 @@ nonzero_part a bp e passes i h =
     λ z. passes i inside (sym (ap (λ (b : Part). part_entry a b i i) e ∙ (λ t. entry a (after_zero i t) (after_zero i t))) ∙ z)
 
 -- ---- solves that test the diagonal first
-solved_when : (info : ℕ) (b x : Matrix) (solve : (ℕ → ℕ) → ℕ → ℕ) → info ≡ 0 → x ≡ tabulate b.rows (cols b) (λ i j. solve (λ k. entry b k j) i) → x ≡ (solved_unless info b solve).matrix
+pub solved_when : (info : ℕ) (b x : Matrix) (solve : (ℕ → ℕ) → ℕ → ℕ) → info ≡ 0 → x ≡ tabulate b.rows (cols b) (λ i j. solve (λ k. entry b k j) i) → x ≡ (solved_unless info b solve).matrix
 solved_when info b x solve e made =
     let t : (info == 0) ≡ true = eq-eqb info 0 e in
     made ∙ sym (ap (λ (c : Bool). if c then tabulate b.rows (cols b) (λ i j. solve (λ k. entry b k j) i) else b) t)

@@ -1,3 +1,4 @@
 pub mod Values
 pub mod Ready
 pub mod Solved
+pub mod Errors

@@ -5,11 +5,20 @@
 #![tactic(auto)]
 
 mod factors;
+mod inverses;
+mod options;
 mod product;
 mod run;
+mod sides;
 mod solves;
 mod texts;
+mod turned_factors;
 mod values;
 mod windows;
+mod wrong;
 
+pub use inverses::{inverse, invert_with_factors};
 pub use run::serial;
+pub use sides::{add_transpose, solve_from_side};
+pub use solves::Triangle;
+pub use turned_factors::solve_with_transpose;

@@ -1,40 +1,35 @@
 //! The serial run of a script.
-ghost use Rattle.std.specs.Prelude.{◌≡◌, ◌++◌, false, Some, codes, OnOk, IfOk};
+ghost use Rattle.std.specs.Prelude.{◌≡◌, ◌≤◌, ◌++◌, false, length, Some, codes, OnOk, IfOk};
 ghost use Rattle.std.specs.FinMap as map;
 ghost use Rattle.field_core.specs.Residue.{inverse};
-ghost use Rattle.run_data.specs.Script.{commands_of};
+ghost use Rattle.run_data.specs.Matrix.{cols};
+ghost use Rattle.run_data.specs.Script.{commands_of, modulus_of};
+ghost use Rattle.local_blas.specs.Kernels.{AreWords};
+ghost use Rattle.elimination.specs.Whole.{AreRows};
 ghost use Rattle.rank_machine.specs.Scripts.{file_of};
 ghost use Rattle.serial_model.specs.Serial as model;
-ghost use Rattle.serial_model.specs.Serial.{with_matrix, with_value, matrix_in, list_in, is_lower, is_unit, factored, solved_by_triangle, solved_by_factors, text_under, values_under, serial_text};
+ghost use Rattle.serial_model.specs.Serial.{with_matrix, with_value, matrix_in, list_in, factored, inverted_by_factors, wrong_in, text_under, values_under, serial_text};
 ghost use Rattle.serial_model.specs.Solves.{product_of, window_copied};
 ghost use Rattle.serial_model.specs.Elimination.{eliminated_matrix};
-ghost use Rattle.serial_model.specs.Text.{info_text};
+ghost use Rattle.serial_model.specs.Text.{info_text, wrong_text};
+ghost use Rattle.serial_model.specs.Transposes.{side_solved, trans_solved, transpose_added};
 ghost use Rattle.serial_machine.specs.Values.{values_of};
-ghost use Rattle.serial_machine.specs.Ready.{AreWhole, CanCopy, CanFactor, CanMultiply, CanRun, CanSolve, CanSolveTriangle, IsReady, prints_text};
+ghost use Rattle.serial_machine.specs.Ready.{AreWhole, CanCopy, CanFactor, CanMultiply, CanRun, CanSolve, CanSolveTriangle, CanTranspose, CanVerify, CanRunLine, prints_text};
 
 use crate::factors::factor;
+use crate::inverses::invert_with_factors;
+use crate::options::{Options, is_transposed};
 use crate::product::multiply;
-use crate::solves::{Triangle, solve_triangle, solve_with_factors};
-use crate::texts::{print_info, print_value};
+use crate::sides::{add_transpose, solve_from_side};
+use crate::solves::solve_with_factors;
+use crate::texts::{print_info, print_value, print_wrong};
+use crate::turned_factors::solve_with_transpose;
 use crate::values::{Value, Values};
 use crate::windows::{Corner, copy_window};
+use crate::wrong::count_wrong;
 use field_core::Field;
-use run_data::{Command, Files, Script};
+use run_data::{Command, Files, Mat, Script};
 use std::alloc::{AllocError, Global};
-
-// Whether an option is the letter L, in either case.
-fn is_lower(word: &[u8]) -> bool
-    ensures { result ≡ is_lower word.now }
-{
-    word == b"L".as_slice() || word == b"l".as_slice()
-}
-
-// Whether an option is the letter U, in either case.
-fn is_unit(word: &[u8]) -> bool
-    ensures { result ≡ is_unit word.now }
-{
-    word == b"U".as_slice() || word == b"u".as_slice()
-}
 
 // A `matrix` line: the name gets the matrix of its file.
 fn add_matrix(
@@ -74,29 +69,52 @@ fn run_product<K: Field>(
     values.put_matrix(alloc, c, product)
 }
 
+// A `ptran` line on the matrices of two names.
+fn run_transpose<K: Field>(
+    alloc: Global,
+    values: &mut Values,
+    alpha: u32,
+    a: &[u8],
+    beta: u32,
+    c: &[u8],
+) -> Result<(), AllocError>
+    requires whole { AreWhole K.MODULUS (values_of values.old.entries.items) }
+    requires can { CanTranspose K.MODULUS (values_of values.old.entries.items) alpha a.now beta c.now }
+    ensures { OnOk result (values_of values.new.entries.items ≡ with_matrix (values_of values.old.entries.items) c.now (transpose_added K.MODULUS alpha (matrix_in (values_of values.old.entries.items a.now)) beta (matrix_in (values_of values.old.entries.items c.now)))) }
+{
+    let mut sum = values.take_matrix(c);
+    let source = values.matrix(a);
+    add_transpose::<K>(alpha, source, beta, &mut sum);
+    values.put_matrix(alloc, c, sum)
+}
+
 // A `ptrsm` line.
 fn run_triangle<K: Field>(
     alloc: Global,
     values: &mut Values,
-    uplo: &[u8],
-    diag: &[u8],
+    options: Options,
     alpha: u32,
     a: &[u8],
     b: &[u8],
     out: &mut Vec<u8>,
 ) -> Result<(), AllocError>
     requires whole { AreWhole K.MODULUS (values_of values.old.entries.items) }
-    requires can { CanSolveTriangle K.MODULUS (values_of values.old.entries.items) alpha a.now b.now }
-    ensures changed { OnOk result (values_of values.new.entries.items ≡ with_matrix (values_of values.old.entries.items) b.now (solved_by_triangle K.MODULUS (inverse K.MODULUS) (values_of values.old.entries.items) uplo.now diag.now alpha a.now b.now).matrix) }
-    ensures text { OnOk result (out.new.items ≡ out.old.items ++ info_text (codes "ptrsm") b.now (solved_by_triangle K.MODULUS (inverse K.MODULUS) (values_of values.old.entries.items) uplo.now diag.now alpha a.now b.now).info) }
+    requires can { CanSolveTriangle K.MODULUS (values_of values.old.entries.items) options.is_left alpha a.now b.now }
+    ensures changed { OnOk result (values_of values.new.entries.items ≡ with_matrix (values_of values.old.entries.items) b.now (side_solved K.MODULUS (inverse K.MODULUS) options.is_left options.is_transposed options.triangle.is_lower options.triangle.is_unit alpha (matrix_in (values_of values.old.entries.items a.now)) (matrix_in (values_of values.old.entries.items b.now))).matrix) }
+    ensures text { OnOk result (out.new.items ≡ out.old.items ++ info_text (codes "ptrsm") b.now (side_solved K.MODULUS (inverse K.MODULUS) options.is_left options.is_transposed options.triangle.is_lower options.triangle.is_unit alpha (matrix_in (values_of values.old.entries.items a.now)) (matrix_in (values_of values.old.entries.items b.now))).info) }
 {
-    let triangle = Triangle {
-        is_lower: is_lower(uplo),
-        is_unit: is_unit(diag),
-    };
     let mut solved = values.take_matrix(b);
     let matrix = values.matrix(a);
-    let info = solve_triangle::<K>(triangle, alpha, matrix, &mut solved);
+    let (left, transposed) = (options.is_left, options.is_transposed);
+    let info = solve_from_side::<K>(
+        alloc,
+        left,
+        transposed,
+        options.triangle,
+        alpha,
+        matrix,
+        &mut solved,
+    )?;
     values.put_matrix(alloc, b, solved)?;
     print_info(alloc, "ptrsm", b, info, out)
 }
@@ -121,8 +139,55 @@ fn run_factor<K: Field>(
     print_info(alloc, "pgetrf", a, factored.info, out)
 }
 
+// B becomes the X with A X = B, or with a transpose the X with A^T X = B, from the factors and the pivots' rows of A.
+fn solve_factored<K: Field>(
+    alloc: Global,
+    transposed: bool,
+    a: &Mat,
+    rows: &[u32],
+    b: &mut Mat,
+) -> Result<u32, AllocError>
+    requires square { cols a.now ≡ a.now.rows }
+    requires same_rows { b.old.rows ≡ a.now.rows }
+    requires list { a.now.rows ≤ length rows.now }
+    requires pivots { AreRows rows.now 0 a.now.rows a.now.rows }
+    requires a_words { AreWords K.MODULUS a.now }
+    requires b_words { AreWords K.MODULUS b.old }
+    ensures matrix { OnOk result (b.new ≡ (trans_solved K.MODULUS (inverse K.MODULUS) transposed a.now rows.now b.old).matrix) }
+    ensures info { IfOk result (λ info. info ≡ (trans_solved K.MODULUS (inverse K.MODULUS) transposed a.now rows.now b.old).info) }
+{
+    if transposed {
+        solve_with_transpose::<K>(alloc, a, rows, b)
+    } else {
+        Ok(solve_with_factors::<K>(a, rows, b))
+    }
+}
+
 // A `pgetrs` line.
 fn run_solve<K: Field>(
+    alloc: Global,
+    values: &mut Values,
+    transposed: bool,
+    a: &[u8],
+    v: &[u8],
+    b: &[u8],
+    out: &mut Vec<u8>,
+) -> Result<(), AllocError>
+    requires whole { AreWhole K.MODULUS (values_of values.old.entries.items) }
+    requires can { CanSolve (values_of values.old.entries.items) a.now v.now b.now }
+    ensures changed { OnOk result (values_of values.new.entries.items ≡ with_matrix (values_of values.old.entries.items) b.now (trans_solved K.MODULUS (inverse K.MODULUS) transposed (matrix_in (values_of values.old.entries.items a.now)) (list_in (values_of values.old.entries.items v.now)) (matrix_in (values_of values.old.entries.items b.now))).matrix) }
+    ensures text { OnOk result (out.new.items ≡ out.old.items ++ info_text (codes "pgetrs") b.now (trans_solved K.MODULUS (inverse K.MODULUS) transposed (matrix_in (values_of values.old.entries.items a.now)) (list_in (values_of values.old.entries.items v.now)) (matrix_in (values_of values.old.entries.items b.now))).info) }
+{
+    let mut solved = values.take_matrix(b);
+    let matrix = values.matrix(a);
+    let rows = values.rows(v);
+    let info = solve_factored::<K>(alloc, transposed, matrix, rows, &mut solved)?;
+    values.put_matrix(alloc, b, solved)?;
+    print_info(alloc, "pgetrs", b, info, out)
+}
+
+// A `pgetri` line.
+fn run_inverse<K: Field>(
     alloc: Global,
     values: &mut Values,
     a: &[u8],
@@ -132,15 +197,33 @@ fn run_solve<K: Field>(
 ) -> Result<(), AllocError>
     requires whole { AreWhole K.MODULUS (values_of values.old.entries.items) }
     requires can { CanSolve (values_of values.old.entries.items) a.now v.now b.now }
-    ensures changed { OnOk result (values_of values.new.entries.items ≡ with_matrix (values_of values.old.entries.items) b.now (solved_by_factors K.MODULUS (inverse K.MODULUS) (values_of values.old.entries.items) a.now v.now b.now).matrix) }
-    ensures text { OnOk result (out.new.items ≡ out.old.items ++ info_text (codes "pgetrs") b.now (solved_by_factors K.MODULUS (inverse K.MODULUS) (values_of values.old.entries.items) a.now v.now b.now).info) }
+    ensures changed { OnOk result (values_of values.new.entries.items ≡ with_matrix (values_of values.old.entries.items) b.now (inverted_by_factors K.MODULUS (inverse K.MODULUS) (values_of values.old.entries.items) a.now v.now b.now).matrix) }
+    ensures text { OnOk result (out.new.items ≡ out.old.items ++ info_text (codes "pgetri") b.now (inverted_by_factors K.MODULUS (inverse K.MODULUS) (values_of values.old.entries.items) a.now v.now b.now).info) }
 {
-    let mut solved = values.take_matrix(b);
+    let mut inverted = values.take_matrix(b);
     let matrix = values.matrix(a);
     let rows = values.rows(v);
-    let info = solve_with_factors::<K>(matrix, rows, &mut solved);
-    values.put_matrix(alloc, b, solved)?;
-    print_info(alloc, "pgetrs", b, info, out)
+    let info = invert_with_factors::<K>(alloc, matrix, rows, &mut inverted)?;
+    values.put_matrix(alloc, b, inverted)?;
+    print_info(alloc, "pgetri", b, info, out)
+}
+
+// A `pverify` line.
+fn run_verify<K: Field>(
+    alloc: Global,
+    values: &Values,
+    script: &Script,
+    line: u32,
+    name: &[u8],
+    out: &mut Vec<u8>,
+) -> Result<(), AllocError>
+    requires { CanVerify (values_of values.now.entries.items) name.now }
+    ensures { OnOk result (out.new.items ≡ out.old.items ++ wrong_text name.now (wrong_in K.MODULUS (commands_of script.now) line name.now (matrix_in (values_of values.now.entries.items name.now)))) }
+{
+    let matrix = values.matrix(name);
+    let flips = script.pending(alloc, line, name)?;
+    let count = count_wrong::<K>(alloc, matrix.rows(), matrix.cols(), &flips)?;
+    print_wrong(alloc, name, count, out)
 }
 
 // A `pgemr2d` line.
@@ -172,7 +255,7 @@ fn run_quiet_line<K: Field>(
     command: &Command,
 ) -> Result<(), AllocError>
     requires whole { AreWhole K.MODULUS (values_of values.old.entries.items) }
-    requires ready { IsReady K.MODULUS files.now line command.now (values_of values.old.entries.items) }
+    requires ready { CanRunLine K.MODULUS files.now line command.now (values_of values.old.entries.items) }
     requires quiet { prints_text command.now ≡ false }
     ensures { OnOk result (values_of values.new.entries.items ≡ values_under K.MODULUS (inverse K.MODULUS) (file_of files.now) line command.now (values_of values.old.entries.items)) }
 {
@@ -189,6 +272,13 @@ fn run_quiet_line<K: Field>(
             let (a, b, c) = (a.bytes(), b.bytes(), c.bytes());
             run_product::<K>(alloc, values, *alpha, a, b, *beta, c)
         }
+        Command::Ptran {
+            alpha,
+            a,
+            beta,
+            c,
+            ..
+        } => run_transpose::<K>(alloc, values, *alpha, a.bytes(), *beta, c.bytes()),
         Command::Pgemr2d {
             m,
             n,
@@ -216,40 +306,42 @@ fn run_quiet_line<K: Field>(
 fn run_line<K: Field>(
     alloc: Global,
     values: &mut Values,
+    script: &Script,
     files: &Files,
     line: u32,
     command: &Command,
     out: &mut Vec<u8>,
 ) -> Result<(), AllocError>
     requires whole { AreWhole K.MODULUS (values_of values.old.entries.items) }
-    requires ready { IsReady K.MODULUS files.now line command.now (values_of values.old.entries.items) }
+    requires ready { CanRunLine K.MODULUS files.now line command.now (values_of values.old.entries.items) }
     ensures changed { OnOk result (values_of values.new.entries.items ≡ values_under K.MODULUS (inverse K.MODULUS) (file_of files.now) line command.now (values_of values.old.entries.items)) }
-    ensures text { OnOk result (out.new.items ≡ out.old.items ++ text_under K.MODULUS (inverse K.MODULUS) command.now (values_of values.old.entries.items)) }
+    ensures text { OnOk result (out.new.items ≡ out.old.items ++ text_under K.MODULUS (inverse K.MODULUS) (commands_of script.now) line command.now (values_of values.old.entries.items)) }
 {
     match command {
         Command::Ptrsm {
+            side,
             uplo,
+            transa,
             diag,
             alpha,
             a,
             b,
             ..
         } => {
-            let uplo = uplo.bytes();
-            run_triangle::<K>(
-                alloc,
-                values,
-                uplo,
-                diag.bytes(),
-                *alpha,
-                a.bytes(),
-                b.bytes(),
-                out,
-            )
+            let options = Options::of(side.bytes(), uplo.bytes(), transa.bytes(), diag.bytes());
+            run_triangle::<K>(alloc, values, options, *alpha, a.bytes(), b.bytes(), out)
         }
         Command::Pgetrf { a, v, .. } => run_factor::<K>(alloc, values, a.bytes(), v.bytes(), out),
-        Command::Pgetrs { a, v, b, .. } => {
-            run_solve::<K>(alloc, values, a.bytes(), v.bytes(), b.bytes(), out)
+        Command::Pgetrs { trans, a, v, b, .. } => {
+            let transposed = is_transposed(trans.bytes());
+            let (a, v, b) = (a.bytes(), v.bytes(), b.bytes());
+            run_solve::<K>(alloc, values, transposed, a, v, b, out)
+        }
+        Command::Pgetri { a, v, b, .. } => {
+            run_inverse::<K>(alloc, values, a.bytes(), v.bytes(), b.bytes(), out)
+        }
+        Command::Pverify { name } => {
+            run_verify::<K>(alloc, values, script, line, name.bytes(), out)
         }
         Command::Print { name } => print_value(alloc, values, name.bytes(), out),
         Command::Pivots { name } => print_value(alloc, values, name.bytes(), out),
@@ -257,7 +349,7 @@ fn run_line<K: Field>(
     }
 }
 
-/// The text that a script prints when one process runs it on whole matrices.
+/// The text that a script prints when one process runs it on whole matrices, over the field that it names.
 ///
 /// `files` has the matrix of each `matrix` line, with the line's rows and columns and words below the modulus. It fails only where
 /// memory runs out.
@@ -266,7 +358,7 @@ pub fn serial<K: Field>(
     script: &Script,
     files: &Files,
 ) -> Result<Vec<u8>, AllocError>
-    requires modulus { K.MODULUS ≡ 65537 }
+    requires modulus { K.MODULUS ≡ modulus_of (commands_of script.now) }
     requires can_run { CanRun script.now files.now }
     ensures { IfOk result (λ text. text.items ≡ serial_text (file_of files.now) (commands_of script.now)) }
 {
@@ -275,7 +367,7 @@ pub fn serial<K: Field>(
     let mut out = Vec::new(alloc);
     for i in 0..script.lines() {
         if let Some(command) = &lines[i as usize] {
-            run_line::<K>(alloc, &mut values, files, i + 1, command, &mut out)?;
+            run_line::<K>(alloc, &mut values, script, files, i + 1, command, &mut out)?;
         }
     }
     Ok(out)

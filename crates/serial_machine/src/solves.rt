@@ -34,7 +34,7 @@ fn triangle_info(triangle: Triangle, a: &Mat) -> u32
 }
 
 // Each column of B is solved by a triangle of A, whose diagonal has no 0 where it counts.
-fn substitute<K: Field>(triangle: Triangle, a: &Mat, b: &mut Mat)
+pub fn substitute<K: Field>(triangle: Triangle, a: &Mat, b: &mut Mat)
     requires square { cols a.now ≡ a.now.rows }
     requires rows { b.old.rows ≡ a.now.rows }
     requires nonzero { triangle.is_unit ≡ false → (i : ℕ) → i < a.now.rows → entry a.now i i ≢ 0 }

@@ -2,12 +2,12 @@
 ghost use Rattle.std.specs.Prelude.{◌≡◌, ◌++◌, ◌<◌, ◌^◌, length, IfOk, OnOk};
 ghost use Rattle.std.specs.Str.{IsUtf8};
 ghost use Rattle.serial_model.specs.Serial.{value_text};
-ghost use Rattle.serial_model.specs.Text.{info_text};
+ghost use Rattle.serial_model.specs.Text.{info_text, wrong_text};
 ghost use Rattle.serial_machine.specs.Values.{seen_value, values_of};
 ghost use Rattle.serial_machine.specs.Ready.{IsValue, IsShort};
 
 use crate::values::{Value, Values};
-use printed_text::{info_text, matrix_text, pivots_text};
+use printed_text::{info_text, matrix_text, pivots_text, wrong_text};
 use run_data::IndexList;
 use std::alloc::{AllocError, Global};
 
@@ -75,5 +75,19 @@ pub fn print_info(
     ensures { OnOk result (out.new.items ≡ out.old.items ++ info_text command.now name.now info) }
 {
     let text = info_text(alloc, command, text_of(name), info)?;
+    out.extend_from_slice(&text)
+}
+
+/// Prints how many words of the matrix of a name were found wrong.
+pub fn print_wrong(
+    alloc: Global,
+    name: &[u8],
+    count: usize,
+    out: &mut Vec<u8>,
+) -> Result<(), AllocError>
+    requires { IsUtf8 name.now }
+    ensures { OnOk result (out.new.items ≡ out.old.items ++ wrong_text name.now count) }
+{
+    let text = wrong_text(alloc, text_of(name), count)?;
     out.extend_from_slice(&text)
 }

@@ -3,7 +3,7 @@ ghost use Rattle.std.specs.Prelude.{◌≡◌, List, ℕ, Some, None, Option, On
 ghost use Rattle.std.specs.Option.{option_copied};
 ghost use Rattle.std.specs.Str.{bytes_eq};
 ghost use Rattle.serial_model.specs.Serial as model;
-ghost use Rattle.serial_model.specs.Serial.{with_value, matrix_in, list_in};
+ghost use Rattle.serial_model.specs.Serial.{with_value, matrix_in, list_in, no_values};
 ghost use Rattle.serial_machine.specs.Values.{seen, seen_value, values_of, place_in, IsMatrix, IsList};
 
 use run_data::Mat;
@@ -65,7 +65,7 @@ fn place_of(entries: &[Named], name: &[u8]) -> usize
 impl Values {
     /// No name has a value.
     pub fn new(alloc: Global) -> Values
-        ensures { values_of result.entries.items ≡ (λ name. None) }
+        ensures { values_of result.entries.items ≡ no_values }
     {
         Values {
             entries: Vec::new(alloc),

@@ -2,3 +2,5 @@ pub mod Text
 pub mod Serial
 pub mod Elimination
 pub mod Solves
+pub mod Transposes
+pub mod Wrong

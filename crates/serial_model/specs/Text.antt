@@ -19,3 +19,7 @@ pivots_text name v = line_of (name ∷ decimal (length v) ∷ []) ++ line_of (ma
 -- what a command says of the matrix that it changed
 abbrev pub info_text : List ℕ → List ℕ → ℕ → List ℕ
 info_text command name info = line_of (command ∷ name ∷ codes "info" ∷ decimal info ∷ [])
+
+-- how many wrong words of a matrix were found
+abbrev pub wrong_text : List ℕ → ℕ → List ℕ
+wrong_text name count = line_of (codes "pverify" ∷ name ∷ codes "wrong" ∷ decimal count ∷ [])

@@ -5,8 +5,8 @@ use std::alloc::Global;
 use std::panic::Expect;
 use std::process::Abort;
 
-// A script, its files a.txt, b.txt and c.txt, and what it prints.
-type Row<'a> = (&'a [u8], [&'a [u8]; 3], &'a [u8]);
+/// A script, its files a.txt, b.txt and c.txt, and what it prints.
+pub type Row<'a> = (&'a [u8], [&'a [u8]; 3], &'a [u8]);
 
 // The words that run a script serially.
 fn words_of(rt: &impl Abort, alloc: Global) -> Vec<String> {
@@ -58,8 +58,8 @@ fn check_row(rt: &impl Abort, alloc: Global, row: usize, given: Row<'_>) {
     check_bytes(rt, row, journal.bytes(), b"");
 }
 
-// The same for each row of a table.
-fn check_table(rt: &impl Abort, alloc: Global, table: &[Row<'_>]) {
+/// The same for each row of a table.
+pub fn check_table(rt: &impl Abort, alloc: Global, table: &[Row<'_>]) {
     for (row, given) in table.iter().enumerate() {
         check_row(rt, alloc, row, *given);
     }

@@ -4,7 +4,8 @@ use Rattle.std.specs.Prelude.{◌==◌, if◌then◌else◌, IfSome, unwrap_or}
 use Rattle.std.proofs.lemmas.Bool.{true≢false}
 use Rattle.run_data.specs.declared.command.Command.{Command}
 use Rattle.run_data.specs.Script.{commands_of}
-use Rattle.rank_machine.specs.Setting.{Job, Layout, job_in, no_layout}
+use Rattle.rank_machine.specs.declared.layout.Layout.{Layout}
+use Rattle.rank_machine.specs.Setting.{Job, job_in, no_layout}
 use Rattle.rank_machine.specs.Scripts.{grids_from}
 use Rattle.script_lines.specs.Layouts.{AreGrids, IsLayout, jobs_of, makes_matrix, layout_in}
 use Rattle.strips_tests.specs.FactoredScript.{lines}

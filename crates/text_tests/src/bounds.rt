@@ -110,16 +110,58 @@ fn bounds_by_hand(rt: HostRuntime) {
     check_bounds(&rt, rt.alloc(), HEAD, &lines);
 }
 
-// A factorization of 256 rows.
-const FACTORIZATION: &[u8] =
-    b"grid g 2 3 2\nmatrix A g 256 256 16 16 0 1 a.txt\nmatrix B g 256 4 16 16 0 0 b.txt\nlinks 1\norder 3 1 4 1 5 9 2 6\npgetrf 256 256 A 1 1 V\npgetrs N 256 4 A 1 1 V B 1 1\npivots V\nprint A\nprint B\n";
+// Lines after the head, as above:
+// - ptran of B, of 6 by 3, to C of 3 by 6, in 2 groups of 25 at most, and 20 for the 5 parts that are moved; C is 37 more, 120 more in the recovery;
+// - ptrsm with TRANSA T: 18 + (1 + 12 + 3 * 22 + 9 * 12), in one phase for the one group;
+// - ptrsm with SIDE R: 18 + 2 * (1 + 12 + 14 + 24 * 5) for the 2 groups of C;
+// - pgetrs with TRANS T: 18 + 98 + 2 * 187 after the factorization;
+// - pgetri: 18 + 2 * (38 + 98 + 2 * 121) after the factorization and E, which is as large as A;
+// - pverify of A: 2 * (1 + 4 + 4 * 9); a grid with two code columns, a matrix of 65 on it, and 4 more for each of its three flips.
+#[test]
+fn bounds_the_rest_by_hand(rt: HostRuntime) {
+    let lines: [Row; 8] = [
+        (
+            b"matrix C g 3 6 3 2 0 0 c\nptran 3 6 1 B 1 1 1 C 1 1\n",
+            5,
+            (163, 45, 308),
+        ),
+        (b"ptrsm L L T N 6 3 1 A 1 1 B 1 1\n", 4, (261, 187, 188)),
+        (
+            b"matrix C g 3 6 3 2 0 0 c\nptrsm R L N N 3 6 1 A 1 1 C 1 1\n",
+            5,
+            (405, 147, 308),
+        ),
+        (
+            b"pgetrf 6 6 A 1 1 V\npgetrs T 6 3 A 1 1 V B 1 1\n",
+            4,
+            (1776, 187, 192),
+        ),
+        (
+            b"matrix E g 6 6 2 2 0 0 e\npgetrf 6 6 A 1 1 V\npgetri 6 A 1 1 V E 1 1\n",
+            5,
+            (2097, 133, 312),
+        ),
+        (b"pverify A\n", 4, (138, 41, 188)),
+        (
+            b"grid h 2 2 2\nmatrix H h 6 6 2 2 0 0 h\nflip H 1 1 3\nflip H 6 6 3\nflip H 6 6 0\npverify H\n",
+            6,
+            (215, 65, 508),
+        ),
+        (
+            b"grid h 2 2 2\nmatrix H h 6 6 2 2 0 0 h\nflip H 1 1 3\npverify H\npverify H\n",
+            6,
+            (289, 65, 508),
+        ),
+    ];
+    check_bounds(&rt, rt.alloc(), HEAD, &lines);
+}
 
-// With three losses, each of which adds a phase and a recovery, the records are as many as in `script_bounds/proofs/Examples.antt`. As a text
-// the script with its `lose` lines breaks the rule that keeps losses and factorizations with code columns apart.
+// A factorization of 256 rows, and three losses, each of which adds a phase and a recovery; the same is computed in
+// `script_bounds/proofs/Examples.antt`.
 #[test]
 fn bounds_a_factorization(rt: HostRuntime) {
-    let script = script(&rt, rt.alloc(), FACTORIZATION);
-    let plain = bound(&script);
-    let loss = phase_steps(&script) + recovery_steps(&script);
-    check_number(&rt, plain.saturating_add(loss.saturating_mul(3)), 129_537);
+    let text =
+        b"grid g 2 3 2\nmatrix A g 256 256 16 16 0 1 a.txt\nmatrix B g 256 4 16 16 0 0 b.txt\nlinks 1\norder 3 1 4 1 5 9 2 6\npgetrf 256 256 A 1 1 V\npgetrs N 256 4 A 1 1 V B 1 1\npivots V\nprint A\nprint B\nlose 1000 0\nlose 30000 7\nlose 60000 4\n";
+    let script = script(&rt, rt.alloc(), text);
+    check_number(&rt, bound(&script), 129_537);
 }

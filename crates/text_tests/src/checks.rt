@@ -64,16 +64,23 @@ pub fn refusal(rt: &impl Abort, alloc: Global, text: &[u8]) -> (u32, i32) {
     }
 }
 
-/// The matrix that the bytes of a file spell.
+/// The matrix of words modulo 65537 that the bytes of a file spell.
 pub fn matrix(rt: &impl Abort, alloc: Global, bytes: &[u8], m: u32, n: u32) -> Mat {
     assert!(rt; bytes.len() <= MAX_BYTES);
-    parse_matrix(alloc, bytes, 2, m, n).expect(rt, "a matrix")
+    parse_matrix(alloc, bytes, 2, m, n, 65537).expect(rt, "a matrix")
 }
 
-/// The line and the code of the refusal of file 2; line 0 and code 0 where it is read.
-pub fn file_refusal(rt: &impl Abort, alloc: Global, bytes: &[u8], m: u32, n: u32) -> (u32, i32) {
+/// The line and the code of the refusal of file 2, whose words are to be below a modulus; line 0 and code 0 where it is read.
+pub fn file_refusal(
+    rt: &impl Abort,
+    alloc: Global,
+    bytes: &[u8],
+    m: u32,
+    n: u32,
+    modulus: u32,
+) -> (u32, i32) {
     assert!(rt; bytes.len() <= MAX_BYTES);
-    match parse_matrix(alloc, bytes, 2, m, n) {
+    match parse_matrix(alloc, bytes, 2, m, n, modulus) {
         Ok(_) => (0, 0),
         Err(
             TextFault::Refused(

@@ -1,5 +1,5 @@
 //! Matrix files by example.
-use crate::checks::{check_number, check_refusal, file_refusal, matrix};
+use crate::checks::{check_number, check_refusal, file_refusal, matrix, repeated};
 use run_data::Mat;
 use std::process::Abort;
 
@@ -38,7 +38,8 @@ fn refuses_matrix_files(rt: HostRuntime) {
         (b"1 2\n3 4\n5 6\n", 3, 2, (0, 0)),
     ];
     for (row, (bytes, m, n, want)) in files.into_iter().enumerate() {
-        check_refusal(&rt, row, file_refusal(&rt, rt.alloc(), bytes, m, n), want);
+        let found = file_refusal(&rt, rt.alloc(), bytes, m, n, 65537);
+        check_refusal(&rt, row, found, want);
     }
 }
 
@@ -57,6 +58,23 @@ fn refuses_files_cut_off(rt: HostRuntime) {
         (b"2 1\n1 1\n", (0, 0)),
     ];
     for (row, (bytes, want)) in files.into_iter().enumerate() {
-        check_refusal(&rt, row, file_refusal(&rt, rt.alloc(), bytes, 2, 2), want);
+        let found = file_refusal(&rt, rt.alloc(), bytes, 2, 2, 65537);
+        check_refusal(&rt, row, found, want);
+    }
+}
+
+// Words that are below 65537 and not below 65521, in the second row after the greatest word below 65521.
+#[test]
+fn refuses_words_of_the_other_field(rt: HostRuntime) {
+    let words: [&[u8]; 16] = [
+        b"65521", b"65522", b"65523", b"65524", b"65525", b"65526", b"65527", b"65528", b"65529",
+        b"65530", b"65531", b"65532", b"65533", b"65534", b"65535", b"65536",
+    ];
+    for (row, word) in words.into_iter().enumerate() {
+        let bytes = repeated(&rt, rt.alloc(), b"65520\n", word, 1);
+        let small = file_refusal(&rt, rt.alloc(), &bytes, 2, 1, 65521);
+        let large = file_refusal(&rt, rt.alloc(), &bytes, 2, 1, 65537);
+        check_refusal(&rt, row, small, (2, 15));
+        check_refusal(&rt, row, large, (0, 0));
     }
 }

@@ -53,7 +53,7 @@ fn checks_losses_beside_code_columns(rt: HostRuntime) {
     let mut script = script(&rt, rt.alloc(), text);
     let read = first_rule(&script);
     add(&rt, &mut script, Command::Lose { at: 0, rank: 0 });
-    check_rules(&rt, &[read, first_rule(&script)], &[(0, 0), (4, 17)]);
+    check_rules(&rt, &[read, first_rule(&script)], &[(0, 0), (0, 0)]);
 }
 
 #[test]
@@ -89,4 +89,46 @@ fn checks_pushed_spares(rt: HostRuntime) {
     let most = first_rule(&script);
     add(&rt, &mut script, Command::Spares { n: 4096 });
     check_rules(&rt, &[most, first_rule(&script)], &[(0, 0), (2, 21)]);
+}
+
+#[test]
+fn checks_pushed_fields(rt: HostRuntime) {
+    let mut fields = Script::new(rt.alloc());
+    add(&rt, &mut fields, Command::Field { n: 65521 });
+    let one = first_rule(&fields);
+    add(&rt, &mut fields, Command::Field { n: 65521 });
+    let two = first_rule(&fields);
+    let mut late = script(&rt, rt.alloc(), MATRICES);
+    add(&rt, &mut late, Command::Field { n: 65537 });
+    check_rules(
+        &rt,
+        &[one, two, first_rule(&late)],
+        &[(0, 0), (2, 19), (7, 20)],
+    );
+}
+
+// Pushes `flip A 1 J 1`.
+fn add_flip(rt: &impl Abort, script: &mut Script, alloc: Global, j: u32) {
+    let name = Word::new(alloc, b"A").expect(rt, "memory");
+    add(
+        rt,
+        script,
+        Command::Flip {
+            name,
+            i: 1,
+            j,
+            x: 1,
+        },
+    );
+}
+
+#[test]
+fn checks_pushed_flips(rt: HostRuntime) {
+    let text = b"grid g 2 2 2\nmatrix A g 4 4 1 1 0 0 f\n";
+    let mut script = script(&rt, rt.alloc(), text);
+    add_flip(&rt, &mut script, rt.alloc(), 1);
+    add_flip(&rt, &mut script, rt.alloc(), 3);
+    let apart = first_rule(&script);
+    add_flip(&rt, &mut script, rt.alloc(), 4);
+    check_rules(&rt, &[apart, first_rule(&script)], &[(0, 0), (5, 24)]);
 }

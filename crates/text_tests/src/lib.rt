@@ -6,7 +6,11 @@ mod bounds;
 #[cfg(test)]
 mod checks;
 #[cfg(test)]
+mod fields;
+#[cfg(test)]
 mod files;
+#[cfg(test)]
+mod flips;
 #[cfg(test)]
 mod growing;
 #[cfg(test)]

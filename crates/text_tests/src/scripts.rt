@@ -250,7 +250,7 @@ fn counts_live_matrices_and_ranks(rt: HostRuntime) {
 
 #[test]
 fn tests_arguments(rt: HostRuntime) {
-    let lines: [(&[u8], (u32, i32)); 28] = [
+    let lines: [(&[u8], (u32, i32)); 30] = [
         (b"pgemm n N 4 4 4 65536 A 1 1 A 1 1 0 C 1 1", (0, 0)),
         (b"pgemm T N 4 4 4 1 A 1 1 B 1 1 1 C 1 1", (8, -1)),
         (b"pgemm N N 4 4 4 1 A 1 1 B 1 1 1 A 1 1", (8, -16)),
@@ -258,16 +258,18 @@ fn tests_arguments(rt: HostRuntime) {
         (b"pgemm N N 4 4 4 1 A 1 1 B 1 1 1 D 1 1", (8, -1902)),
         (b"pgemm N N 4 4 4 1 A 1 1 B 1 1 65537 A 0 1", (8, -15)),
         (b"ptrsm l u n u 4 4 1 A 1 1 B 1 1", (0, 0)),
-        (b"ptrsm R U N U 4 4 1 A 1 1 B 1 1", (8, -1)),
+        (b"ptrsm X U N U 4 4 1 A 1 1 B 1 1", (8, -1)),
+        (b"ptrsm r l t n 4 4 1 A 1 1 B 1 1", (0, 0)),
         (b"ptrsm L U N U 4 4 1 A 1 1 A 2 1", (8, -12)),
         (b"ptrsm L U N U 4 4 1 A 1 1 D 1 1", (8, -1502)),
         (b"pgetrf 4 4 B 1 1 V", (8, 5)),
         (b"pgetrf 4 4 B 1 2 W", (8, -5)),
         (b"pgetrf 4 4 D 1 1 W", (0, 0)),
-        (b"pgetrf 4 4 D 1 1 W\nlose 1 1", (8, 17)),
-        (b"lose 1 8\npgetrf 4 4 D 1 1 W", (9, 17)),
+        (b"pgetrf 4 4 D 1 1 W\nlose 1 1", (0, 0)),
+        (b"lose 1 8\npgetrf 4 4 D 1 1 W", (0, 0)),
         (b"lose 1 10", (8, 8)),
         (b"pgetrs N 4 4 A 1 1 V B 1 1", (0, 0)),
+        (b"pgetrs t 4 4 A 1 1 V B 1 1", (0, 0)),
         (b"pgetrs N 4 4 D 1 1 V B 1 1", (8, -8)),
         (b"pgetrs N 4 4 A 1 1 V A 1 1", (8, -9)),
         (b"pgetrs N 4 3 A 1 1 V B 1 1", (8, -3)),

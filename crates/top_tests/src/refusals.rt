@@ -14,6 +14,9 @@ pub fn refused(file: u32, line: u32, code: i32) -> Status {
     Status::Refused { file, line, code }
 }
 
+const IN_ANOTHER_FIELD: &[u8] =
+    b"field 65521\ngrid g 1 1 0\nmatrix A g 1 1 1 1 0 0 a.txt\nprint A\n";
+
 #[test]
 fn refuses_files(rt: HostRuntime) {
     check_answers(
@@ -29,6 +32,16 @@ fn refuses_files(rt: HostRuntime) {
                 SMALLEST,
                 b"65537\n",
                 ended(refused(2, 1, 15), b"refused file 2 line 1 code 15\n"),
+            ),
+            (
+                IN_ANOTHER_FIELD,
+                b"65521\n",
+                ended(refused(3, 1, 15), b"refused file 3 line 1 code 15\n"),
+            ),
+            (
+                IN_ANOTHER_FIELD,
+                b"65536\n",
+                ended(refused(3, 1, 15), b"refused file 3 line 1 code 15\n"),
             ),
             (
                 SMALLEST,
@@ -105,6 +118,16 @@ fn refuses_lines_that_are_not_run(rt: HostRuntime) {
                 b"grid g 1 1 1\nlose 0 0\nmatrix A g 1 1 1 1 0 0 b.txt\nmatrix B g 1 1 1 1 0 0 b.txt\npgemr2d 1 1 A 1 1 B 1 1 all\n",
                 b"",
                 ended(refused(0, 5, 18), b"refused file 0 line 5 code 18\n"),
+            ),
+            (
+                b"grid g 1 1 0\nmatrix A g 1 1 1 1 0 0 b.txt\nmatrix B g 1 1 1 1 0 0 b.txt\nptran 1 1 1 A 1 1 0 B 1 1\n",
+                b"",
+                ended(refused(0, 4, 18), b"refused file 0 line 4 code 18\n"),
+            ),
+            (
+                b"field 65521\ngrid g 1 2 2\nmatrix A g 1 2 1 1 0 0 b.txt\nflip A 1 1 3\npverify A\n",
+                b"",
+                ended(refused(0, 4, 18), b"refused file 0 line 4 code 18\n"),
             ),
             (
                 b"grid g 1 1 0\nmatrix A g 1 1 1 1 0 0 a.txt\npgetrf 1 1 A 1 1 V\npivots V\n",

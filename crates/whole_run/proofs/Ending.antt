@@ -1,5 +1,5 @@
 -- From what holds between lines, and inside a line, to what a run is.
-use Rattle.std.proofs.Common.{◌≡◌, ◌<◌, ◌≤◌, ◌==◌, ◌&&◌, ℕ, Bool, true, false, nat_lt, List, ◌++◌, Option, None, length, refl, sym, ap, subst, ◌∙◌, ⊎_elim, arith, All}
+use Rattle.std.proofs.Common.{◌≡◌, ◌<◌, ◌≤◌, ◌==◌, ◌&&◌, ℕ, Bool, true, false, nat_lt, List, ◌++◌, Option, length, refl, sym, ap, subst, ◌∙◌, ⊎_elim, arith, All}
 use Rattle.std.specs.Prelude.{◌⊎◌, nat_le}
 use Rattle.std.proofs.lemmas.Bool.{true≢false, cases_Bool, or_cases, and_parts, eqb-true, le-leb, ltb-true}
 use Rattle.std.proofs.lemmas.Bool.Decides.{nat_tests}
@@ -23,7 +23,7 @@ use Rattle.world_heal.specs.declared.healing.Drove.{Drove}
 use Rattle.world_heal.specs.declared.healing.Drove.TheVariants as d
 use Rattle.world_heal.specs.Outcomes.{IsEnding, IsCutAt}
 use Rattle.whole_run.specs.PrintedFrom.{ArePrinted}
-use Rattle.serial_model.specs.Serial.{up_to, text_to}
+use Rattle.serial_model.specs.Serial.{no_values, up_to, text_to}
 use Rattle.rank_machine.specs.Losses.{last_ended}
 use Rattle.whole_run.specs.Until.{AllEndUntil}
 use Rattle.whole_run.specs.Between.{IsInBounds, HasRun}
@@ -82,7 +82,7 @@ told_at script files line used w out h =
     record {
       printed = printed-shorter line (last_ended w.journal) h.last (setting_of script files) (commands_of script) (state_of w).committed (commands_of script) out by
           (subst (λ s. ArePrinted s (commands_of script) (state_of w).committed (up_to line (commands_of script)) out) same h.printed);
-      text = h.text ∙ text-shorter line (last_ended w.journal) h.last (file_of files) (commands_of script) (λ name. None) by;
+      text = h.text ∙ text-shorter line (last_ended w.journal) h.last (file_of files) (commands_of script) (commands_of script) no_values by;
     }
 
 -- ---- a run to its end

@@ -1,18 +1,21 @@
 -- Takes of later lines change nothing that was printed.
-use Rattle.std.proofs.Common.{◌≡◌, ℕ, ◌<◌, ◌≤◌, ◌==◌, ◌&&◌, Bool, true, false, List, [], ◌∷◌, ◌++◌, None, refl, ap, subst, ◌∙◌, ⊎_elim, arith, All}
+use Rattle.std.proofs.Common.{◌≡◌, ℕ, ◌<◌, ◌≤◌, ◌==◌, ◌&&◌, Bool, true, false, List, [], ◌∷◌, ◌++◌, None, refl, sym, ap, subst, ◌∙◌, ⊎_elim, arith, All}
 use Rattle.std.specs.Prelude.{if◌then◌else◌, nat_le, codes}
 use Rattle.std.proofs.lemmas.List.Elements.{All-head, All-tail, All-nil, All-cons}
+use Rattle.std.proofs.lemmas.List.Sums.{sum_by-append, sum_by-cons}
+use Rattle.field_core.specs.Sums.{sum_to}
 use Rattle.std.proofs.lemmas.Bool.{cases_Bool, false_from_ne_true, and_parts, eqb-true, leb-true}
 use Rattle.run_data.specs.declared.command.Command.{Command}
 use Rattle.run_data.specs.declared.command.Command.TheVariants as c
 use Rattle.run_data.specs.Script.{Numbered}
 use Rattle.rank_machine.specs.declared.slot.SlotKind.TheVariants.{Pivots, Work}
-use Rattle.rank_machine.specs.Setting.{Setting}
+use Rattle.rank_machine.specs.Setting.{Setting, layout}
 use Rattle.rank_machine.specs.Scripts.{line_meant}
 use Rattle.rank_machine.specs.State.{Took, same_kind, or_else}
 use Rattle.rank_machine.specs.Printed.{last_take}
-use Rattle.whole_run.specs.PrintedFrom.{IsMatrixText, IsPivotsText, IsInfoText, IsTextOf, ArePrinted}
+use Rattle.whole_run.specs.PrintedFrom.{IsMatrixText, IsPivotsText, IsInfoText, IsWrongText, IsTextOf, ArePrinted, sum_where, nonzero_in, is_difference}
 use Rattle.serial_model.specs.Serial.{up_to}
+use Rattle.serial_model.specs.Text.{wrong_text}
 
 abbrev pub AreLater : ℕ → List Took → Type 0
 AreLater line more = All (λ t. line < t.line) more
@@ -65,6 +68,26 @@ matrix_later s line taken more name text h p = record {
   text_is = p.text_is;
 }
 
+sum_none : (line : ℕ) (more : List Took) (test : Took → Bool) (f : Took → ℕ) → IsOfLine line test → AreLater line more → sum_where more test f ≡ 0
+sum_none line [] test f of h = refl
+sum_none line (t ∷ ts) test f of h =
+    let past : test t ≡ false = false_from_ne_true (test t) (λ e. omega (arith, of t e, All-head (λ (t : Took). line < t.line) t ts h)) in
+    let here : (if test t then f t else 0) ≡ 0 = ap (λ b. if b then f t else 0) past in
+    let rest : sum_where ts test f ≡ 0 = sum_none line ts test f of (All-tail (λ (t : Took). line < t.line) t ts h) in
+    omega (arith, sum_by-cons (λ (t : Took). if test t then f t else 0) t ts, here, rest)
+
+sum_later : (line : ℕ) (taken more : List Took) (test : Took → Bool) (f : Took → ℕ) → IsOfLine line test → AreLater line more → sum_where (taken ++ more) test f ≡ sum_where taken test f
+sum_later line taken more test f of h = omega (arith, sum_by-append (λ (t : Took). if test t then f t else 0) taken more, sum_none line more test f of h)
+
+wrong_later : (s : Setting) (line what : ℕ) (taken more : List Took) (name text : List ℕ) → AreLater line more → IsWrongText s taken line what name text → IsWrongText s (taken ++ more) line what name text
+wrong_later s line what taken more name text h p = record {
+  one_each = λ row lt. stays row (λ t. 1) ∙ p.one_each row lt;
+  text_is = p.text_is ∙ ap (wrong_text name) (sym (λ i. sum_to (layout s what).grid.p (λ row. stays row (λ t. nonzero_in t.tile) i)));
+}
+  where
+    stays : (row : ℕ) (f : Took → ℕ) → sum_where (taken ++ more) (is_difference line (layout s what).grid row) f ≡ sum_where taken (is_difference line (layout s what).grid row) f
+    stays row f = sum_later line taken more (is_difference line (layout s what).grid row) f (of_two line _ _) h
+
 one_later : (s : Setting) (ns : List Numbered) (taken more : List Took) (line : ℕ) (x : Command) (text : List ℕ) → AreLater line more → IsTextOf s ns taken line x text → IsTextOf s ns (taken ++ more) line x text
 one_later s ns taken more line (c.Print name) text h p = matrix_later s line taken more name text h p
 one_later s ns taken more line (c.Pivots name) text h p = pivots_later line (line_meant ns line 1) taken more name text h p
@@ -81,6 +104,11 @@ one_later s ns taken more line (c.Links n) text h p = p
 one_later s ns taken more line (c.Order numbers) text h p = p
 one_later s ns taken more line (c.Lose at rank) text h p = p
 one_later s ns taken more line (c.Spares n) text h p = p
+one_later s ns taken more line (c.Field n) text h p = p
+one_later s ns taken more line (c.Ptran m n alpha a ia ja beta x ic jc) text h p = p
+one_later s ns taken more line (c.Pgetri n a ia ja v b ib jb) text h p = info_later line taken more (codes "pgetri") b text h p
+one_later s ns taken more line (c.Flip name i j x) text h p = p
+one_later s ns taken more line (c.Pverify name) text h p = wrong_later s line (line_meant ns line 1) taken more name text h p
 
 later_still : (line at : ℕ) (more : List Took) → at ≤ line → AreLater line more → AreLater at more
 later_still line at [] le h = All-nil (λ (t : Took). at < t.line)

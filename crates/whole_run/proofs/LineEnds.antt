@@ -8,7 +8,7 @@ use Rattle.std.proofs.lemmas.List.Sums.{sum_by-append, sum_by-cons}
 use Rattle.std.proofs.lemmas.Bool.{leb-true, le-leb, lt-ltb, ltb-true, eqb-true, eq-eqb, or_cases, or_left, or_right, and_parts, and_from, true≢false, cases_Bool, false_from_ne_true}
 use Rattle.run_data.specs.Matrix.{Matrix}
 use Rattle.run_data.specs.declared.command.Command.{Command}
-use Rattle.run_data.specs.Script.{Numbered, commands_of, command_at}
+use Rattle.run_data.specs.Script.{Numbered, commands_of, command_at, modulus_of}
 use Rattle.rank_machine.specs.declared.mark.Mark.{Mark}
 use Rattle.rank_machine.specs.declared.record.Rec.{Rec}
 use Rattle.rank_machine.specs.declared.record.Rec.TheVariants as r
@@ -18,7 +18,7 @@ use Rattle.rank_machine.specs.State.{State, Took, end_mark}
 use Rattle.rank_machine.specs.Effect.{has_ended}
 use Rattle.rank_machine.specs.Losses.{last_ended}
 use Rattle.script_bounds.specs.Bounds.{records_in, losses, phase_steps, recovery_steps}
-use Rattle.serial_model.specs.Serial.{Values, values_after, text_added, text_from, up_to, text_to}
+use Rattle.serial_model.specs.Serial.{Values, no_values, text_from, up_to, text_to}
 use Rattle.block_world.specs.World.{WorldView, setting_in, state_of}
 use Rattle.run_laws.specs.Traces.{spent}
 use Rattle.phases.specs.Plans.{Plan, Progress}
@@ -27,7 +27,7 @@ use Rattle.world_heal.specs.Costs.{KeepsGoing, KeepsShort, KeepsHealing, KeepsHo
 use Rattle.whole_run.specs.PrintedFrom.{IsTextOf, ArePrinted}
 use Rattle.line_laws.proofs.UpTo.{one_of, up_to-next, text-append, values-append}
 use Rattle.whole_run.specs.Until.{values_at, bound_until, AllEndUntil}
-use Rattle.line_laws.specs.Lines.{values_of}
+use Rattle.line_laws.specs.Lines.{values_after, values_of, text_added}
 use Rattle.whole_run.specs.Between.{StandsFor, IsInBounds, HasRun, cost}
 use Rattle.whole_run.proofs.Ending.{setting_is}
 use Rattle.whole_run.proofs.Lasting.{last_append}
@@ -48,9 +48,9 @@ pub record EndsLine (script : List (Option Command)) (files : Matrices) (line : 
   pub held : KeepsHolding old new
   pub costs : CostsAtMost (phase_steps (commands_of script)) (recovery_steps (commands_of script)) old new plan.most_records
   pub later : AreLater line progress.takes
-  pub stands : StandsFor (setting_of script files) (commands_of script) (state_of new) (values_after (file_of files) (suc line) x (values_at (file_of files) (commands_of script) line))
+  pub stands : StandsFor (setting_of script files) (commands_of script) (state_of new) (values_after (modulus_of (commands_of script)) (file_of files) (suc line) x (values_at (file_of files) (commands_of script) line))
   pub says : IsTextOf (setting_of script files) (commands_of script) ((state_of old).committed ++ progress.takes) (suc line) x text
-  pub text_is : text ≡ text_added x (values_at (file_of files) (commands_of script) line)
+  pub text_is : text ≡ text_added (commands_of script) (suc line) x (values_at (file_of files) (commands_of script) line)
 
 -- ---- the mark of the line's end
 pub ended_at : (at line : ℕ) → has_ended (end_mark line) at ≡ nat_le at line
@@ -108,10 +108,10 @@ line-ends script files line old new out x text h g =
     printed-later (setting_of script files) ns (state_of old).committed g.progress.takes line ns out g.later (subst (λ s. ArePrinted s ns (state_of old).committed (up_to line ns) out) was h.printed) in
     let printed : ArePrinted (setting_of script files) ns ((state_of old).committed ++ g.progress.takes) (up_to line ns ++ record { line = suc line; command = x } ∷ []) (out ++ text) =
     printed-append (setting_of script files) ns ((state_of old).committed ++ g.progress.takes) (up_to line ns) (record { line = suc line; command = x } ∷ []) out text before_it (text, [], g.says, refl, sym (append-nil text)) in
-    let values : values_at (file_of files) ns (suc line) ≡ values_after (file_of files) (suc line) x (values_at (file_of files) ns line) =
-    ap (λ xs. values_of (file_of files) xs (λ name. None)) more ∙ values-append (file_of files) (up_to line ns) (record { line = suc line; command = x } ∷ []) (λ name. None) in
-    let said : text_to (file_of files) ns (suc line) ≡ text_to (file_of files) ns line ++ (text_added x (values_at (file_of files) ns line) ++ []) =
-    ap (λ xs. text_from (file_of files) xs (λ name. None)) more ∙ text-append (file_of files) (up_to line ns) (record { line = suc line; command = x } ∷ []) (λ name. None) in
+    let values : values_at (file_of files) ns (suc line) ≡ values_after (modulus_of ns) (file_of files) (suc line) x (values_at (file_of files) ns line) =
+    ap (λ xs. values_of (modulus_of ns) (file_of files) xs no_values) more ∙ values-append (modulus_of ns) (file_of files) (up_to line ns) (record { line = suc line; command = x } ∷ []) no_values in
+    let said : text_to (file_of files) ns (suc line) ≡ text_to (file_of files) ns line ++ (text_added ns (suc line) x (values_at (file_of files) ns line) ++ []) =
+    ap (λ xs. text_from (file_of files) ns xs no_values) more ∙ text-append (file_of files) ns (up_to line ns) (record { line = suc line; command = x } ∷ []) no_values in
     let bound : bound_until (suc line) ns ≡ bound_until line ns + records_in ns (suc line) x =
     ap (λ xs. sum_by (λ (n : Numbered). records_in ns n.line n.command) xs) more
     ∙ (sum_by-append (λ n. records_in ns n.line n.command) (up_to line ns) (record { line = suc line; command = x } ∷ [])
@@ -134,7 +134,7 @@ line-ends script files line old new out x text h g =
       printed = subst (λ s. ArePrinted s ns (state_of new).committed (up_to (suc line) ns) (out ++ text)) (sym now)
           (subst (λ xs. ArePrinted (setting_of script files) ns (state_of new).committed xs (out ++ text)) (sym more)
           (subst (λ t. ArePrinted (setting_of script files) ns t (up_to line ns ++ record { line = suc line; command = x } ∷ []) (out ++ text)) (sym g.driven.committed) printed));
-      text = (λ i. h.text i ++ (g.text_is ∙ sym (append-nil (text_added x (values_at (file_of files) ns line)))) i) ∙ sym said;
+      text = (λ i. h.text i ++ (g.text_is ∙ sym (append-nil (text_added ns (suc line) x (values_at (file_of files) ns line)))) i) ∙ sym said;
       bounds = subst (λ s. IsInBounds s (phase_steps ns) (recovery_steps ns) new.journal) (sym same) bounds;
       few = subst (λ s. spent (cost ns) s new.journal ≤ bound_until (suc line) ns + losses ns * cost ns) (sym same) (omega (arith, g.costs, h.few, g.few, bound));
     }

@@ -1,5 +1,5 @@
 -- Before its first line a run has done nothing.
-use Rattle.std.proofs.Common.{◌≡◌, ◌+◌, ◌*◌, ◌≤◌, ◌<◌, ◌==◌, ◌&&◌, ◌||◌, ℕ, zero, suc, Bool, true, false, not, nat_lt, List, [], ◌∷◌, ◌++◌, length, Option, None, refl, sym, ap, subst, ◌∙◌, ⊎_elim, arith}
+use Rattle.std.proofs.Common.{◌≡◌, ◌+◌, ◌*◌, ◌≤◌, ◌<◌, ◌==◌, ◌&&◌, ◌||◌, ℕ, zero, suc, Bool, true, false, not, nat_lt, List, [], ◌∷◌, ◌++◌, length, Option, refl, sym, ap, subst, ◌∙◌, ⊎_elim, arith}
 use Rattle.std.specs.Prelude.{if◌then◌else◌, nat_le}
 use Rattle.std.proofs.Math.Nat.{mul-le-mul_right}
 use Rattle.std.specs.List.{sum_by}
@@ -17,7 +17,7 @@ use Rattle.rank_machine.specs.State.{State, opened, first_mark}
 use Rattle.rank_machine.specs.Effect.{has_ended, is_dropped, is_live_matrix, is_live_list}
 use Rattle.rank_machine.specs.Held.{words_in}
 use Rattle.script_bounds.specs.Bounds.{losses, losses_made}
-use Rattle.serial_model.specs.Serial.{text_from, up_to}
+use Rattle.serial_model.specs.Serial.{no_values, text_from, up_to}
 use Rattle.block_world.specs.World.{WorldView}
 use Rattle.run_laws.specs.Due.{is_ahead, ahead_of}
 use Rattle.run_laws.specs.NextMark.{JobsRise, has_line}
@@ -75,6 +75,11 @@ loss_one (c.Topology kind) = refl
 loss_one (c.Links n) = refl
 loss_one (c.Order numbers) = refl
 loss_one (c.Spares n) = refl
+loss_one (c.Field n) = refl
+loss_one (c.Ptran m n alpha a ia ja beta x ic jc) = refl
+loss_one (c.Pgetri n a ia ja v b ib jb) = refl
+loss_one (c.Flip name i j x) = refl
+loss_one (c.Pverify name) = refl
 
 losses_counted : (ns : List Numbered) → length (losses_in ns) ≡ losses ns
 unfolding losses
@@ -111,7 +116,7 @@ at-opening script files room =
       ends = λ at job le. absurd (not_job script files at job le);
       stands = record { matrices = λ line name live names. absurd (no_matrix s line live); lists = λ line name live names. absurd (no_list script files line live) };
       printed = subst (λ xs. ArePrinted s ns [] xs []) (sym none) refl;
-      text = sym (ap (λ xs. text_from (file_of files) xs (λ name. None)) none);
+      text = sym (ap (λ xs. text_from (file_of files) ns xs no_values) none);
       bounds = record { goes = record { may = tt; back = tt }; short = tt; heals = tt; held = λ rank lt slots distinct. omega (arith, no_words s rank slots) };
       few = omega (arith, few_spent (ahead_of s.losses 0 false) (losses ns) (cost ns) (omega (arith, few_ahead s.losses 0 false, losses_counted ns)));
     }

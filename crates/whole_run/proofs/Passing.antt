@@ -7,14 +7,14 @@ use Rattle.std.proofs.lemmas.List.Sums.{sum_by-append}
 use Rattle.std.proofs.lemmas.Bool.{leb-true, le-leb, true≢false, cases_Bool, false_from_ne_true}
 use Rattle.run_data.specs.Matrix.{Matrix}
 use Rattle.run_data.specs.declared.command.Command.{Command}
-use Rattle.run_data.specs.Script.{Numbered, commands_of, command_at, makes_records}
+use Rattle.run_data.specs.Script.{Numbered, commands_of, command_at, makes_records, modulus_of}
 use Rattle.rank_machine.specs.Setting.{Setting, is_job}
 use Rattle.rank_machine.specs.Scripts.{Matrices, file_of, setting_of}
 use Rattle.rank_machine.specs.State.{State, Took}
 use Rattle.rank_machine.specs.Effect.{has_ended}
 use Rattle.rank_machine.specs.Losses.{last_ended}
 use Rattle.script_bounds.specs.Bounds.{records_in, losses}
-use Rattle.serial_model.specs.Serial.{Values, values_after, text_added, text_from, up_to, text_to}
+use Rattle.serial_model.specs.Serial.{Values, no_values, text_from, up_to, text_to}
 use Rattle.block_world.specs.World.{WorldView, setting_in, state_of}
 use Rattle.whole_run.specs.PrintedFrom.{IsTextOf, ArePrinted}
 use Rattle.line_laws.proofs.UpTo.{one_of, up_to-next, text-append, values-append}
@@ -36,13 +36,13 @@ printed-append s ns taken (n ∷ xs) ys a b h k =
     (h.0, h.1 ++ b, h.2, printed-append s ns taken xs ys h.1 b h.3 k, ap (λ t. t ++ b) h.4 ∙ append_assoc h.0 h.1 b)
 
 module _ (files : ℕ → Matrix) (line : ℕ) where
-  silent-values : (o : Option Command) (values : Values) → IsSilent o → values_of files (one_of line o) values ≡ values
-  silent-values None values h = refl
-  silent-values (Some x) values h = same_values files line x values h
+  silent-values : (p : ℕ) (o : Option Command) (values : Values) → IsSilent o → values_of p files (one_of line o) values ≡ values
+  silent-values p None values h = refl
+  silent-values p (Some x) values h = same_values p files line x values h
 
-  silent-text : (o : Option Command) (values : Values) → IsSilent o → text_from files (one_of line o) values ≡ []
-  silent-text None values h = refl
-  silent-text (Some x) values h = ap (λ ws. ws ++ []) (none_added x values h)
+  silent-text : (script : List Numbered) (o : Option Command) (values : Values) → IsSilent o → text_from files script (one_of line o) values ≡ []
+  silent-text script None values h = refl
+  silent-text script (Some x) values h = ap (λ ws. ws ++ []) (none_added script line x values h)
 
 silent-printed : (s : Setting) (ns : List Numbered) (taken : List Took) (line : ℕ) (o : Option Command) → IsSilent o → ArePrinted s ns taken (one_of line o) []
 silent-printed s ns taken line None h = refl
@@ -78,14 +78,14 @@ passed script files line w out h silent =
     let other : (at : ℕ) → is_job (setting_in w) at ≡ true → at ≡ suc line → ⊥ =
     λ at job e. no_job script files (suc line) silent (subst (λ n. is_job (setting_of script files) n ≡ true) e (subst (λ s. is_job s at ≡ true) same job)) in
     let values : values_at (file_of files) ns line ≡ values_at (file_of files) ns (suc line) =
-    sym (ap (λ xs. values_of (file_of files) xs (λ name. None)) more
-    ∙ (values-append (file_of files) (up_to line ns) one (λ name. None) ∙ silent-values (file_of files) (suc line) (command_at ns (suc line)) (values_at (file_of files) ns line) silent)) in
+    sym (ap (λ xs. values_of (modulus_of ns) (file_of files) xs no_values) more
+    ∙ (values-append (modulus_of ns) (file_of files) (up_to line ns) one no_values ∙ silent-values (file_of files) (suc line) (modulus_of ns) (command_at ns (suc line)) (values_at (file_of files) ns line) silent)) in
     let printed : ArePrinted (setting_in w) ns (state_of w).committed (up_to line ns ++ one) (out ++ []) =
     printed-append (setting_in w) ns (state_of w).committed (up_to line ns) one out [] h.printed (silent-printed (setting_in w) ns (state_of w).committed (suc line) (command_at ns (suc line)) silent) in
     let text : text_to (file_of files) ns (suc line) ≡ text_to (file_of files) ns line =
-    ap (λ xs. text_from (file_of files) xs (λ name. None)) more
-    ∙ (text-append (file_of files) (up_to line ns) one (λ name. None)
-    ∙ (ap (λ t. text_to (file_of files) ns line ++ t) (silent-text (file_of files) (suc line) (command_at ns (suc line)) _ silent) ∙ append-nil (text_to (file_of files) ns line))) in
+    ap (λ xs. text_from (file_of files) ns xs no_values) more
+    ∙ (text-append (file_of files) ns (up_to line ns) one no_values
+    ∙ (ap (λ t. text_to (file_of files) ns line ++ t) (silent-text (file_of files) (suc line) ns (command_at ns (suc line)) _ silent) ∙ append-nil (text_to (file_of files) ns line))) in
     let bound : bound_until (suc line) ns ≡ bound_until line ns + sum_by (λ n. records_in ns n.line n.command) one =
     ap (λ xs. sum_by (λ (n : Numbered). records_in ns n.line n.command) xs) more ∙ sum_by-append (λ n. records_in ns n.line n.command) (up_to line ns) one in
     record {

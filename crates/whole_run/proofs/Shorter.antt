@@ -9,14 +9,15 @@ use Rattle.std.proofs.lemmas.Bool.Decides.{nat_tests}
 use Rattle.run_data.specs.Matrix.{Matrix}
 use Rattle.run_data.specs.declared.command.Command.{Command}
 use Rattle.run_data.specs.declared.command.Command.TheVariants as c
-use Rattle.run_data.specs.Script.{Numbered, commands_from, commands_of, makes_records}
+use Rattle.run_data.specs.Script.{Numbered, commands_from, commands_of, makes_records, modulus_of}
 use Rattle.blacs_grid.specs.declared.Grid.{Grid}
 use Rattle.rank_machine.specs.Setting.{Job, Setting, some_job, is_job}
 use Rattle.rank_machine.specs.Scripts.{Matrices, jobs_from, job_of, grids_from, setting_of}
 use Rattle.rank_machine.specs.State.{Took}
 use Rattle.rank_machine.proofs.Jobs.{job_of-line}
 use Rattle.script_bounds.specs.Bounds.{records_in, plain_bound, bound, losses}
-use Rattle.serial_model.specs.Serial.{Values, values_after, text_added, text_from}
+use Rattle.line_laws.specs.Lines.{values_after, text_added}
+use Rattle.serial_model.specs.Serial.{Values, text_from}
 use Rattle.whole_run.specs.PrintedFrom.{IsTextOf, ArePrinted}
 use Rattle.serial_model.specs.Serial.{up_to}
 use Rattle.whole_run.specs.Until.{bound_until}
@@ -39,6 +40,11 @@ none_printed s ns taken line (c.Links n) text e h = h
 none_printed s ns taken line (c.Order numbers) text e h = h
 none_printed s ns taken line (c.Lose at rank) text e h = h
 none_printed s ns taken line (c.Spares n) text e h = h
+none_printed s ns taken line (c.Field n) text e h = h
+none_printed s ns taken line (c.Ptran m n alpha a ia ja beta x ic jc) text e h = absurd (true≢false e)
+none_printed s ns taken line (c.Pgetri n a ia ja v b ib jb) text e h = absurd (true≢false e)
+none_printed s ns taken line (c.Flip name i j x) text e h = h
+none_printed s ns taken line (c.Pverify name) text e h = absurd (true≢false e)
 
 pub says_nothing : (s : Setting) (ns : List Numbered) (taken : List Took) (line : ℕ) (x : Command) → makes_records x ≡ false → IsTextOf s ns taken line x []
 says_nothing s ns taken line (c.Print name) e = absurd (true≢false e)
@@ -56,40 +62,55 @@ says_nothing s ns taken line (c.Links n) e = refl
 says_nothing s ns taken line (c.Order numbers) e = refl
 says_nothing s ns taken line (c.Lose at rank) e = refl
 says_nothing s ns taken line (c.Spares n) e = refl
+says_nothing s ns taken line (c.Field n) e = refl
+says_nothing s ns taken line (c.Ptran m n alpha a ia ja beta x ic jc) e = refl
+says_nothing s ns taken line (c.Pgetri n a ia ja v b ib jb) e = absurd (true≢false e)
+says_nothing s ns taken line (c.Flip name i j x) e = refl
+says_nothing s ns taken line (c.Pverify name) e = absurd (true≢false e)
 
-pub none_added : (x : Command) (values : Values) → makes_records x ≡ false → text_added x values ≡ []
-none_added (c.Print name) values e = absurd (true≢false e)
-none_added (c.Pivots name) values e = absurd (true≢false e)
-none_added (c.Ptrsm side uplo transa diag m n alpha a ia ja b ib jb) values e = absurd (true≢false e)
-none_added (c.Pgetrf m n a ia ja v) values e = absurd (true≢false e)
-none_added (c.Pgetrs trans n nrhs a ia ja v b ib jb) values e = absurd (true≢false e)
-none_added (c.Pgemm transa transb m n k alpha a ia ja b ib jb beta x ic jc) values e = absurd (true≢false e)
-none_added (c.Matrix name grid m n mb nb rsrc csrc file) values e = absurd (true≢false e)
-none_added (c.Pgemr2d m n a ia ja b ib jb ctxt) values e = absurd (true≢false e)
-none_added (c.Discard name) values e = absurd (true≢false e)
-none_added (c.Grid name p q f) values e = refl
-none_added (c.Topology kind) values e = refl
-none_added (c.Links n) values e = refl
-none_added (c.Order numbers) values e = refl
-none_added (c.Lose at rank) values e = refl
-none_added (c.Spares n) values e = refl
+pub none_added : (script : List Numbered) (line : ℕ) (x : Command) (values : Values) → makes_records x ≡ false → text_added script line x values ≡ []
+none_added script line (c.Print name) values e = absurd (true≢false e)
+none_added script line (c.Pivots name) values e = absurd (true≢false e)
+none_added script line (c.Ptrsm side uplo transa diag m n alpha a ia ja b ib jb) values e = absurd (true≢false e)
+none_added script line (c.Pgetrf m n a ia ja v) values e = absurd (true≢false e)
+none_added script line (c.Pgetrs trans n nrhs a ia ja v b ib jb) values e = absurd (true≢false e)
+none_added script line (c.Pgemm transa transb m n k alpha a ia ja b ib jb beta x ic jc) values e = absurd (true≢false e)
+none_added script line (c.Matrix name grid m n mb nb rsrc csrc file) values e = absurd (true≢false e)
+none_added script line (c.Pgemr2d m n a ia ja b ib jb ctxt) values e = absurd (true≢false e)
+none_added script line (c.Discard name) values e = absurd (true≢false e)
+none_added script line (c.Grid name p q f) values e = refl
+none_added script line (c.Topology kind) values e = refl
+none_added script line (c.Links n) values e = refl
+none_added script line (c.Order numbers) values e = refl
+none_added script line (c.Lose at rank) values e = refl
+none_added script line (c.Spares n) values e = refl
+none_added script line (c.Field n) values e = refl
+none_added script line (c.Ptran m n alpha a ia ja beta x ic jc) values e = absurd (true≢false e)
+none_added script line (c.Pgetri n a ia ja v b ib jb) values e = absurd (true≢false e)
+none_added script line (c.Flip name i j x) values e = refl
+none_added script line (c.Pverify name) values e = absurd (true≢false e)
 
-pub same_values : (files : ℕ → Matrix) (line : ℕ) (x : Command) (values : Values) → makes_records x ≡ false → values_after files line x values ≡ values
-same_values files line (c.Print name) values e = absurd (true≢false e)
-same_values files line (c.Pivots name) values e = absurd (true≢false e)
-same_values files line (c.Ptrsm side uplo transa diag m n alpha a ia ja b ib jb) values e = absurd (true≢false e)
-same_values files line (c.Pgetrf m n a ia ja v) values e = absurd (true≢false e)
-same_values files line (c.Pgetrs trans n nrhs a ia ja v b ib jb) values e = absurd (true≢false e)
-same_values files line (c.Pgemm transa transb m n k alpha a ia ja b ib jb beta x ic jc) values e = absurd (true≢false e)
-same_values files line (c.Matrix name grid m n mb nb rsrc csrc file) values e = absurd (true≢false e)
-same_values files line (c.Pgemr2d m n a ia ja b ib jb ctxt) values e = absurd (true≢false e)
-same_values files line (c.Discard name) values e = absurd (true≢false e)
-same_values files line (c.Grid name p q f) values e = refl
-same_values files line (c.Topology kind) values e = refl
-same_values files line (c.Links n) values e = refl
-same_values files line (c.Order numbers) values e = refl
-same_values files line (c.Lose at rank) values e = refl
-same_values files line (c.Spares n) values e = refl
+pub same_values : (modulus : ℕ) (files : ℕ → Matrix) (line : ℕ) (x : Command) (values : Values) → makes_records x ≡ false → values_after modulus files line x values ≡ values
+same_values modulus files line (c.Print name) values e = absurd (true≢false e)
+same_values modulus files line (c.Pivots name) values e = absurd (true≢false e)
+same_values modulus files line (c.Ptrsm side uplo transa diag m n alpha a ia ja b ib jb) values e = absurd (true≢false e)
+same_values modulus files line (c.Pgetrf m n a ia ja v) values e = absurd (true≢false e)
+same_values modulus files line (c.Pgetrs trans n nrhs a ia ja v b ib jb) values e = absurd (true≢false e)
+same_values modulus files line (c.Pgemm transa transb m n k alpha a ia ja b ib jb beta x ic jc) values e = absurd (true≢false e)
+same_values modulus files line (c.Matrix name grid m n mb nb rsrc csrc file) values e = absurd (true≢false e)
+same_values modulus files line (c.Pgemr2d m n a ia ja b ib jb ctxt) values e = absurd (true≢false e)
+same_values modulus files line (c.Discard name) values e = absurd (true≢false e)
+same_values modulus files line (c.Grid name p q f) values e = refl
+same_values modulus files line (c.Topology kind) values e = refl
+same_values modulus files line (c.Links n) values e = refl
+same_values modulus files line (c.Order numbers) values e = refl
+same_values modulus files line (c.Lose at rank) values e = refl
+same_values modulus files line (c.Spares n) values e = refl
+same_values modulus files line (c.Field n) values e = refl
+same_values modulus files line (c.Ptran m n alpha a ia ja beta x ic jc) values e = absurd (true≢false e)
+same_values modulus files line (c.Pgetri n a ia ja v b ib jb) values e = absurd (true≢false e)
+same_values modulus files line (c.Flip name i j x) values e = refl
+same_values modulus files line (c.Pverify name) values e = absurd (true≢false e)
 
 -- ---- lines up to one, or up to the last one of these that makes records
 abbrev pub IsBy : ℕ → ℕ → Numbered → Type 0
@@ -122,19 +143,22 @@ module _ (line last : ℕ) (le : nat_le last line ≡ true) where
       (cases_Bool (nat_le n.line line)))
       (cases_Bool (nat_le n.line last))
 
-  pub text-shorter : (files : ℕ → Matrix) (xs : List Numbered) (values : Values) → All (IsBy line last) xs → text_from files (up_to line xs) values ≡ text_from files (up_to last xs) values
-  text-shorter files [] values by = refl
-  text-shorter files (n ∷ xs) values by =
+  pub text-shorter : (files : ℕ → Matrix) (script xs : List Numbered) (values : Values) → All (IsBy line last) xs → text_from files script (up_to line xs) values ≡ text_from files script (up_to last xs) values
+  text-shorter files script [] values by = refl
+  text-shorter files script (n ∷ xs) values by =
+      let p : ℕ = modulus_of script in
+      let next : Values = values_after p files n.line n.command values in
+      let more : All (IsBy line last) xs = All-tail (IsBy line last) n xs by in
       ⊎_elim
       (λ (in_last : nat_le n.line last ≡ true).
       let here : nat_le n.line line ≡ true = within last line n.line le in_last in
-      rw (in_last, here) (ap (λ ws. text_added n.command values ++ ws) (text-shorter files xs (values_after files n.line n.command values) (All-tail (IsBy line last) n xs by))))
+      rw (in_last, here) (ap (λ ws. text_added script n.line n.command values ++ ws) (text-shorter files script xs next more)))
       (λ (past : nat_le n.line last ≡ false). ⊎_elim
       (λ (here : nat_le n.line line ≡ true).
       let none : makes_records n.command ≡ false = not_made line last n (All-head (IsBy line last) n xs by) here past in
-      rw (past, here) (ap (λ ws. ws ++ text_from files (up_to line xs) (values_after files n.line n.command values)) (none_added n.command values none)
-      ∙ (ap (text_from files (up_to line xs)) (same_values files n.line n.command values none) ∙ text-shorter files xs values (All-tail (IsBy line last) n xs by))))
-      (λ (out : nat_le n.line line ≡ false). rw (past, out) (text-shorter files xs values (All-tail (IsBy line last) n xs by)))
+      rw (past, here) (ap (λ ws. ws ++ text_from files script (up_to line xs) next) (none_added script n.line n.command values none)
+      ∙ (ap (text_from files script (up_to line xs)) (same_values p files n.line n.command values none) ∙ text-shorter files script xs values more)))
+      (λ (out : nat_le n.line line ≡ false). rw (past, out) (text-shorter files script xs values more))
       (cases_Bool (nat_le n.line line)))
       (cases_Bool (nat_le n.line last))
 

@@ -3,7 +3,7 @@ use Rattle.std.proofs.Common.{◌≡◌, ◌+◌, ◌*◌, ◌≤◌, ℕ, zero,
 use Rattle.std.specs.Prelude.{if◌then◌else◌, nat_le, Contains}
 use Rattle.std.proofs.lemmas.Bool.{cases_Bool, le-leb, leb-false}
 use Rattle.run_data.specs.declared.command.Command.{Command}
-use Rattle.run_data.specs.Script.{Numbered, commands_from, commands_of}
+use Rattle.run_data.specs.Script.{Numbered, commands_from, commands_of, modulus_of}
 use Rattle.rank_machine.specs.declared.mark.Mark.{Mark}
 use Rattle.rank_machine.specs.declared.record.Rec.{Rec}
 use Rattle.rank_machine.specs.declared.record.Rec.TheVariants as r
@@ -13,7 +13,7 @@ use Rattle.rank_machine.specs.State.{State, opened, end_mark}
 use Rattle.rank_machine.specs.Effect.{after}
 use Rattle.rank_machine.specs.Legal.{IsLegalFrom}
 use Rattle.rank_machine.specs.Losses.{last_ended, last_ended_from}
-use Rattle.serial_model.specs.Serial.{up_to, text_from, text_to, serial_text}
+use Rattle.serial_model.specs.Serial.{no_values, up_to, text_from, text_to, serial_text}
 use Rattle.line_laws.specs.Lines.{values_of}
 use Rattle.line_laws.proofs.UpTo.{none-before, text-append}
 use Rattle.whole_run.specs.WholeRun.{Ending, done, IsRunOf}
@@ -91,9 +91,9 @@ whole-text script files out journal run =
     let all : ℕ = length script + last in
     let by : All (IsBy all last) ns = all-by script files all last (λ at job le.
     le-leb at last (by_last s (opened s) 0 at run.records run.legal.legal (run.ends at at job (le-leb at at (omega arith))))) in
-    let shorter : text_to (file_of files) ns all ≡ text_to (file_of files) ns last = text-shorter all last (le-leb last all (omega arith)) (file_of files) ns (λ name. None) by in
+    let shorter : text_to (file_of files) ns all ≡ text_to (file_of files) ns last = text-shorter all last (le-leb last all (omega arith)) (file_of files) ns ns no_values by in
     let whole : up_to all ns ≡ ns = up_to-all 1 all script (omega arith) in
-    run.serial ∙ (sym shorter ∙ ap (serial_text (file_of files)) whole)
+    run.serial ∙ (sym shorter ∙ ap (λ xs. text_from (file_of files) ns xs no_values) whole)
 
 -- ---- the first lines
 -- the commands up to a line are the first of all
@@ -114,5 +114,6 @@ pub text-begins : (script : List (Option Command)) (files : Matrices) (ending : 
 text-begins script files ending out journal run =
     let cut = first_lines 1 (last_ended run.records) script in
     let first : List Numbered = up_to (last_ended run.records) (commands_of script) in
-    let rest : List ℕ = text_from (file_of files) cut.0 (values_of (file_of files) first (λ name. None)) in
-    (rest, ap (λ ns. text_from (file_of files) ns (λ name. None)) cut.1 ∙ (text-append (file_of files) first cut.0 (λ name. None) ∙ ap (λ t. t ++ rest) (sym run.serial)))
+    let ns : List Numbered = commands_of script in
+    let rest : List ℕ = text_from (file_of files) ns cut.0 (values_of (modulus_of ns) (file_of files) first no_values) in
+    (rest, ap (λ xs. text_from (file_of files) ns xs no_values) cut.1 ∙ (text-append (file_of files) ns first cut.0 no_values ∙ ap (λ t. t ++ rest) (sym run.serial)))

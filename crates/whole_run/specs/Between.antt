@@ -6,7 +6,8 @@ use Rattle.run_data.specs.Script.{Numbered, commands_of, command_at, name_made}
 use Rattle.rank_machine.specs.declared.slot.SlotKind.TheVariants.{Data}
 use Rattle.rank_machine.specs.declared.slot.Tile.TheVariants.{Words}
 use Rattle.rank_machine.specs.declared.record.Rec.{Rec}
-use Rattle.rank_machine.specs.Setting.{Setting, Layout, layout, factored, is_job, strip_of}
+use Rattle.rank_machine.specs.declared.layout.Layout.{Layout}
+use Rattle.rank_machine.specs.Setting.{Setting, layout, factored, is_job, strip_of}
 use Rattle.rank_machine.specs.Scripts.{Matrices, file_of}
 use Rattle.rank_machine.specs.State.{State}
 use Rattle.rank_machine.specs.Effect.{is_live_matrix, is_live_list, has_ended}

@@ -1,10 +1,10 @@
 -- The first lines of a script: what they print, and what their names mean after them.
-use Rattle.std.specs.Prelude.{◌≡◌, ℕ, true, false, nat_le, None, List, [], ◌∷◌, Contains}
+use Rattle.std.specs.Prelude.{◌≡◌, ℕ, true, false, nat_le, List, [], ◌∷◌, Contains}
 use Rattle.run_data.specs.Matrix.{Matrix}
 use Rattle.std.specs.List.{sum_by}
-use Rattle.run_data.specs.Script.{Numbered}
+use Rattle.run_data.specs.Script.{Numbered, modulus_of}
 use Rattle.script_bounds.specs.Bounds.{records_in}
-use Rattle.serial_model.specs.Serial.{Values, up_to}
+use Rattle.serial_model.specs.Serial.{Values, no_values, up_to}
 use Rattle.line_laws.specs.Lines.{values_of}
 use Rattle.rank_machine.specs.declared.record.Rec.{Rec}
 use Rattle.rank_machine.specs.declared.record.Rec.TheVariants as r
@@ -13,7 +13,7 @@ use Rattle.rank_machine.specs.Setting.{Setting, is_job}
 
 -- what names mean after the lines up to one
 abbrev pub values_at : (ℕ → Matrix) → List Numbered → ℕ → Values
-values_at files ns line = values_of files (up_to line ns) (λ name. None)
+values_at files ns line = values_of (modulus_of ns) files (up_to line ns) no_values
 
 -- the records of these lines where no rank is lost
 abbrev pub bound_until : ℕ → List Numbered → ℕ

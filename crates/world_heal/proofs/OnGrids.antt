@@ -3,12 +3,11 @@ use Rattle.std.specs.Prelude.{◌==◌, if◌then◌else◌, IfOk}
 use Rattle.std.proofs.Common.{Result, ◌≡◌, ◌+◌, ◌<◌, ◌≤◌, ◌&&◌, ℕ, Bool, true, List, length, get_or, refl, sym, ap, subst, ◌∙◌, arith}
 use Rattle.std.proofs.lemmas.Bool.{eq-eqb}
 use Rattle.rank_machine.specs.declared.mark.Mark.{Mark}
-use Rattle.rank_machine.specs.Setting.{Job, Layout, Setting, layout, factored, no_job}
+use Rattle.rank_machine.specs.declared.layout.Layout.{Layout}
+use Rattle.rank_machine.specs.Setting.{Job, Setting, layout, factored, no_job}
 use Rattle.rank_machine.specs.State.{State}
 use Rattle.rank_machine.specs.Effect.{is_live_matrix, is_live_list}
-use Rattle.script_lines.specs.declared.layouts.Layout as script
 use Rattle.script_lines.specs.declared.lines.Line.{Line}
-use Rattle.script_lines.specs.Layouts.{seen}
 use Rattle.script_lines.specs.Lines.{job_seen, no_line, setting_on}
 use Rattle.script_lines.proofs.TableLaws.{is_live_matrix_on, is_live_list_on, layout_on}
 use Rattle.run_laws.specs.Traces.{matrix_most, list_most}
@@ -52,7 +51,7 @@ module _ (w : WorldView) (table : List Line) (is : IsTable (setting_in w) table)
   pub list-read : (mark : Mark) (line : ℕ) (live : Bool) → mark ≡ (state_of w).mark → live ≡ is_live_list (setting_on 0 table) mark line → live ≡ is_live_list (setting_in w) (rest_of w).mark line
   list-read mark line live last e = e ∙ (is_live_list_on (setting_in w) table 0 is.lines mark line ∙ ap (λ m. is_live_list (setting_in w) m line) (last ∙ mark-rest w))
 
-  pub grid-read : (line : ℕ) (d : script.Layout) → seen d ≡ layout (setting_on 0 table) line → d.desc.ctxt ≡ (layout (setting_in w) line).desc.ctxt
+  pub grid-read : (line : ℕ) (d : Layout) → d ≡ layout (setting_on 0 table) line → d.desc.ctxt ≡ (layout (setting_in w) line).desc.ctxt
   grid-read line d e = ap (λ (x : Layout). x.desc.ctxt) e ∙ ap (λ (x : Layout). x.desc.ctxt) (layout_on (setting_in w) table 0 is.lines line)
 
 -- ---- where the matrix or the list of a line is live on the grid, its records count, and else nothing is healed

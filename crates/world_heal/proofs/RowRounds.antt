@@ -17,7 +17,8 @@ use Rattle.rank_machine.specs.declared.slot.Piece.{Piece}
 use Rattle.rank_machine.specs.declared.kernel.Kernel.{Kernel}
 use Rattle.rank_machine.specs.declared.mark.Mark.{Mark}
 use Rattle.rank_machine.specs.declared.slot.SlotKind.TheVariants.{Pivots}
-use Rattle.rank_machine.specs.Setting.{Layout, Setting, ranks, layout, is_matrix, factored, group_count}
+use Rattle.rank_machine.specs.declared.layout.Layout.{Layout}
+use Rattle.rank_machine.specs.Setting.{Setting, ranks, layout, is_matrix, factored, group_count}
 use Rattle.rank_machine.specs.State.{State}
 use Rattle.rank_machine.specs.Effect.{replay, has_ended, is_dropped, is_live_matrix, is_live_list}
 use Rattle.rank_machine.specs.Legal.{lost_columns, IsLegalFrom}

@@ -15,7 +15,8 @@ use Rattle.rank_machine.specs.declared.slot.SlotKind.TheVariants.{Data, Code, Lo
 use Rattle.rank_machine.specs.declared.slot.Piece.TheVariants as piece
 use Rattle.rank_machine.specs.declared.kernel.Cut.{Cut}
 use Rattle.rank_machine.specs.declared.kernel.Cut.TheVariants as cut
-use Rattle.rank_machine.specs.Setting.{Layout, Setting, ranks, layout, strip_rows, block_at}
+use Rattle.rank_machine.specs.declared.layout.Layout.{Layout}
+use Rattle.rank_machine.specs.Setting.{Setting, ranks, layout, strip_rows, block_at}
 use Rattle.rank_machine.specs.State.{State}
 use Rattle.rank_machine.specs.Legal.{lost_columns}
 use Rattle.rank_machine.specs.CodeLaw.{slot_at, has_low, is_open_group}

@@ -4,7 +4,7 @@ ghost use Rattle.rank_machine.specs.Setting as machine;
 ghost use Rattle.rank_machine.specs.Effect as effect;
 ghost use Rattle.rank_machine.specs.Legal as legal;
 ghost use Rattle.rank_machine.specs.State.{State};
-ghost use Rattle.script_lines.specs.Layouts.{IsLayout, seen};
+ghost use Rattle.script_lines.specs.Layouts.{IsLayout};
 ghost use Rattle.run_laws.specs.Traces.{matrix_most};
 ghost use Rattle.block_world.specs.World.{setting_in, state_of};
 ghost use Rattle.recovery_code.specs.Spots.{spot_seen, spot_under};
@@ -44,12 +44,12 @@ fn mend_group<K: Field>(
     requires mending { IsMending world.old }
     requires live { effect.is_live_matrix (setting_in world.old) (rest_of world.old).mark place.line ≡ true }
     requires place { spot_seen place ≡ spot_under (setting_in world.old) (rest_of world.old).mark place.line place.row place.group }
-    requires laid_out { IsLayout (seen place.layout) }
+    requires laid_out { IsLayout place.layout }
     requires row_in { place.row < place.layout.grid.p }
-    requires group_in { place.group < machine.group_count (seen place.layout) }
+    requires group_in { place.group < machine.group_count place.layout }
     requires lost { lost.now ≡ legal.lost_columns (state_of world.old) place.layout.grid place.row }
-    ensures { IfOk result (IfDone (HasMended (round_most (seen place.layout)) (λ (s : machine.Setting) (last now : State). IsRowHealed s last now place.line place.row place.group) world.old world.new)
-        (IsHitMending (round_most (seen place.layout)) world.old world.new)) }
+    ensures { IfOk result (IfDone (HasMended (round_most place.layout) (λ (s : machine.Setting) (last now : State). IsRowHealed s last now place.line place.row place.group) world.old world.new)
+        (IsHitMending (round_most place.layout) world.old world.new)) }
 {
     let _running = world.journal();
     let mut round = Round::new(alloc);
@@ -74,12 +74,12 @@ fn mend_groups<K: Field>(
     requires mending { IsMending world.old }
     requires table { IsTable (setting_in world.old) table.now }
     requires live { effect.is_live_matrix (setting_in world.old) (rest_of world.old).mark line ≡ true }
-    requires layout { seen layout ≡ machine.layout (setting_in world.old) line }
-    requires laid_out { IsLayout (seen layout) }
+    requires layout { layout ≡ machine.layout (setting_in world.old) line }
+    requires laid_out { IsLayout layout }
     requires row_in { row < layout.grid.p }
     requires lost { lost.now ≡ legal.lost_columns (state_of world.old) layout.grid row }
-    ensures { IfOk result (IfDone (HasMended (machine.group_count (seen layout) * round_most (seen layout)) (AreGroupsHealed line row (machine.group_count (seen layout))) world.old world.new)
-        (IsHitMending (machine.group_count (seen layout) * round_most (seen layout)) world.old world.new)) }
+    ensures { IfOk result (IfDone (HasMended (machine.group_count layout * round_most layout) (AreGroupsHealed line row (machine.group_count layout)) world.old world.new)
+        (IsHitMending (machine.group_count layout * round_most layout) world.old world.new)) }
 {
     for group in 0..groups(layout.desc.n, layout.desc.nb, layout.grid.q) {
         let place = place_of(table, world.mark(), layout, line, row, group);

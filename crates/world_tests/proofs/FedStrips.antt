@@ -25,7 +25,8 @@ use Rattle.rank_machine.specs.declared.slot.Piece.{Piece}
 use Rattle.rank_machine.specs.declared.kernel.Kernel.{Kernel}
 use Rattle.rank_machine.specs.declared.record.Rec.{Rec}
 use Rattle.rank_machine.specs.declared.record.Rec.TheVariants as r
-use Rattle.rank_machine.specs.Setting.{Setting, Layout, Job, no_job, ranks, job, layout, is_matrix}
+use Rattle.rank_machine.specs.declared.layout.Layout.{Layout}
+use Rattle.rank_machine.specs.Setting.{Setting, Job, no_job, ranks, job, layout, is_matrix}
 use Rattle.rank_machine.specs.Scripts.{Matrices, file_of, setting_of, grids_from}
 use Rattle.rank_machine.specs.State.{State}
 use Rattle.rank_machine.specs.Effect.{state_after, replay}
@@ -110,6 +111,7 @@ is_sound =
     let no_scalars : Job → Type 0 = λ j. All residue j.scalars in
     record {
       modulus = refl;
+      large = omega arith;
       grids = one_grid;
       layouts = at_matrix (λ line. IsLayout (layout setting line)) laid_out;
       files = at_matrix (λ line. AreWords 65537 (file_of files line)) (subst (AreWords 65537) (sym found) words);
@@ -213,16 +215,16 @@ pub second_feed : IsLegalRec setting (state_after setting (r.Feed 0 data_slot �
 second_feed = IsLegalRec-from_test setting [] (state_after setting (r.Feed 0 data_slot ∷ [])) (r.Feed 2 data_slot) tt refl
 
 -- what a run and a look ask
-pub record IsReady (s : Setting) (j : List Rec) (es : Events) (rank : ℕ) (slot : Slot) : Type 0 where
+pub record CanLookAfter (s : Setting) (j : List Rec) (es : Events) (rank : ℕ) (slot : Slot) : Type 0 where
   pub links : (from to : ℕ) → (state_after s j).links from to ≡ []
   pub within : All (IsWithin (ranks s)) es
   pub legal : IsLegalFrom s (state_after s j) (records_of es)
   pub look : IsLegalRec s (replay s (state_after s j) (records_of es)) (r.Take rank slot)
 
-pub ready : (w : WorldView) (es : Events) (rank : ℕ) (slot : Slot) → setting_in w ≡ setting → w.journal ≡ fed → MayLook (inverse 65537) es rank slot → IsReady (setting_in w) w.journal es rank slot
-ready w es rank slot e f may =
-    subst (λ (t : Setting). IsReady t w.journal es rank slot) (sym e)
-    (subst (λ (k : List Rec). IsReady setting k es rank slot) (sym f) (record { links = λ from to. refl; within = may.within; legal = may.legal; look = may.look }))
+pub can_look : (w : WorldView) (es : Events) (rank : ℕ) (slot : Slot) → setting_in w ≡ setting → w.journal ≡ fed → MayLook (inverse 65537) es rank slot → CanLookAfter (setting_in w) w.journal es rank slot
+can_look w es rank slot e f may =
+    subst (λ (t : Setting). CanLookAfter t w.journal es rank slot) (sym e)
+    (subst (λ (k : List Rec). CanLookAfter setting k es rank slot) (sym f) (record { links = λ from to. refl; within = may.within; legal = may.legal; look = may.look }))
 
 -- after a whole round the state is that of its events in list order
 pub look_after : (w w' : WorldView) (es : Events) (order order' : List ℕ) (ended : Ran) (x : Rec) → ended ≡ ran.Whole

@@ -10,7 +10,8 @@ use Rattle.run_data.proofs.PartLaws.{AreWords-tabulate}
 use Rattle.run_data.specs.declared.command.Command.{Command}
 use Rattle.rank_machine.specs.declared.record.Loss.{Loss}
 use Rattle.rank_machine.specs.declared.record.Rec.{Rec}
-use Rattle.rank_machine.specs.Setting.{Setting, Layout, Job, no_job, ranks, job, layout, is_matrix}
+use Rattle.rank_machine.specs.declared.layout.Layout.{Layout}
+use Rattle.rank_machine.specs.Setting.{Setting, Job, no_job, ranks, job, layout, is_matrix}
 use Rattle.rank_machine.specs.Scripts.{Matrices, file_of, setting_of}
 use Rattle.rank_slots.proofs.Factors.{scalars_at}
 use Rattle.script_lines.specs.Layouts.{AreGrids, IsLayout}
@@ -81,6 +82,7 @@ is_sound =
     let no_scalars : Job → Type 0 = λ j. All residue j.scalars in
     record {
       modulus = refl;
+      large = omega arith;
       grids = one_grid;
       layouts = at_matrix (λ line. IsLayout (layout s line)) laid_out;
       files = at_matrix (λ line. AreWords 65537 (file_of files line)) (subst (AreWords 65537) (sym found) words);

@@ -11,7 +11,8 @@ use Rattle.blacs_grid.specs.Limits.{IsGrid}
 use Rattle.rank_machine.specs.declared.record.Loss.{Loss}
 use Rattle.rank_machine.specs.declared.record.Rec.{Rec}
 use Rattle.run_data.specs.declared.command.Command.{Command}
-use Rattle.rank_machine.specs.Setting.{Setting, Layout, Job, no_job, ranks, job, layout, is_matrix}
+use Rattle.rank_machine.specs.declared.layout.Layout.{Layout}
+use Rattle.rank_machine.specs.Setting.{Setting, Job, no_job, ranks, job, layout, is_matrix}
 use Rattle.rank_machine.specs.Scripts.{Matrices, file_of, setting_of}
 use Rattle.rank_slots.proofs.Factors.{scalars_at}
 use Rattle.script_lines.specs.Layouts.{AreGrids, IsLayout}
@@ -94,6 +95,7 @@ is_sound a b n a_there b_there =
     let is_there : Loss → Type 0 = λ l. l.rank < ranks s in
     record {
       modulus = refl;
+      large = omega arith;
       grids = two_grids;
       layouts = at_matrix (λ line. IsLayout (layout s line)) a b n laid_out;
       files = at_matrix (λ line. AreWords 65537 (file_of files line)) a b n (subst (AreWords 65537) (sym found) words);

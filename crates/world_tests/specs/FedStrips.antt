@@ -27,7 +27,8 @@ use Rattle.rank_machine.specs.declared.kernel.Kernel.{Kernel}
 use Rattle.rank_machine.specs.declared.kernel.Kernel.TheVariants as k
 use Rattle.rank_machine.specs.declared.record.Rec.{Rec}
 use Rattle.rank_machine.specs.declared.record.Rec.TheVariants as r
-use Rattle.rank_machine.specs.Setting.{Setting, Layout, Job, no_job}
+use Rattle.rank_machine.specs.declared.layout.Layout.{Layout}
+use Rattle.rank_machine.specs.Setting.{Setting, Job, no_job}
 use Rattle.rank_machine.specs.Scripts.{Matrices, file_of, layout_on}
 use Rattle.rank_machine.specs.Effect.{state_after, replay}
 use Rattle.rank_machine.specs.Legal.{IsLegalRec, IsLegalFrom}

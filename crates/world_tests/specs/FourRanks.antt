@@ -39,7 +39,7 @@ round_trip =
     ∷ Move 1 2 (Whole (work 2)) (Whole (work 1)) ∷ Move 2 3 (Whole (work 1)) (Whole (work 1)) ∷ Move 3 0 (Whole (work 1)) (Whole (work 2)) ∷ []
 
 -- what a run asks of its script, its files and its round
-pub record IsReady (script : List (Option Command)) (files : Matrices) (es : List (Event Rank Kernel Piece Tile)) : Type 0 where
+pub record CanRunRound (script : List (Option Command)) (files : Matrices) (es : List (Event Rank Kernel Piece Tile)) : Type 0 where
   pub sound : IsSound 65537 (setting_of script files)
   pub losses : (setting_of script files).losses ≡ []
   pub ranks : All (IsWithin (ranks (setting_of script files))) es

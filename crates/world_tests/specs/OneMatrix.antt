@@ -7,7 +7,8 @@ use Rattle.run_data.specs.declared.command.Command.{Command}
 use Rattle.run_data.specs.declared.command.Command.TheVariants as c
 use Rattle.blacs_grid.specs.declared.Grid.{Grid}
 use Rattle.rank_machine.specs.declared.record.Loss.{Loss}
-use Rattle.rank_machine.specs.Setting.{Setting, Layout, Job, no_job}
+use Rattle.rank_machine.specs.declared.layout.Layout.{Layout}
+use Rattle.rank_machine.specs.Setting.{Setting, Job, no_job}
 use Rattle.rank_machine.specs.Scripts.{Matrices, file_of, layout_on}
 
 -- the limit of replacements, or a line without words

@@ -5,7 +5,8 @@ use Rattle.field_core.specs.Residue.{inverse}
 use Rattle.run_data.specs.Matrix.{Matrix, zero_matrix, with_entry}
 use Rattle.run_data.specs.declared.command.Command.{Command}
 use Rattle.run_data.specs.declared.command.Command.TheVariants as c
-use Rattle.rank_machine.specs.Setting.{Setting, Layout, Job, no_job}
+use Rattle.rank_machine.specs.declared.layout.Layout.{Layout}
+use Rattle.rank_machine.specs.Setting.{Setting, Job, no_job}
 use Rattle.rank_machine.specs.Scripts.{Matrices, file_of, layout_on}
 use Rattle.world_tests.specs.OneMatrix.{grid}
 

@@ -3,7 +3,8 @@ use Rattle.std.specs.Prelude.{◌≡◌, ℕ, Bool, true, false, ◌&&◌, if◌
 use Rattle.run_data.specs.Matrix.{Matrix}
 use Rattle.rank_machine.specs.declared.record.Rec.{Rec}
 use Rattle.rank_machine.specs.declared.record.Rec.TheVariants as r
-use Rattle.rank_machine.specs.Setting.{Setting, Layout, layout, is_matrix}
+use Rattle.rank_machine.specs.declared.layout.Layout.{Layout}
+use Rattle.rank_machine.specs.Setting.{Setting, layout, is_matrix}
 use Rattle.rank_machine.specs.Effect.{state_after}
 use Rattle.rank_machine.specs.Losses.{falls}
 use Rattle.rank_machine.specs.Tests.{rec_test}

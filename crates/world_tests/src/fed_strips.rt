@@ -9,7 +9,6 @@ ghost use Rattle.rank_machine.specs.Legal.{IsLegalRec, IsLegalFrom};
 ghost use Rattle.rank_slots.specs.Stands.{records_of};
 ghost use Rattle.block_world.specs.Did.{IsDid};
 ghost use Rattle.block_world.specs.World.{setting_in, state_of};
-ghost use Rattle.script_lines.specs.Layouts.{seen};
 ghost use Rattle.world_tests.specs.Play.{IsOnlyMatrix};
 ghost use Rattle.world_tests.specs.FedStrips.{MayLook, column_round, data_slot, encode_round, exchange_round, files, finding, gather_round, least_round, lines, matrix, row_round, where_it_lies};
 
@@ -117,8 +116,8 @@ fn script_of(alloc: Global) -> Result<Script, AllocError>
     Ok(script)
 }
 
-fn layout_of() -> Layout
-    ensures { seen result ≡ where_it_lies }
+fn fixture_layout() -> Layout
+    ensures { result ≡ where_it_lies }
 {
     Layout {
         grid: GRID,
@@ -144,7 +143,7 @@ fn feed(
     layout: Layout,
     rank: u32,
 ) -> Result<Did, AllocError>
-    requires only { IsOnlyMatrix (setting_in world.old) (seen layout) m.now }
+    requires only { IsOnlyMatrix (setting_in world.old) layout m.now }
     requires legal { IsLegalRec (setting_in world.old) (state_of world.old) (Rec.Feed rank data_slot) }
     ensures { IfOk result (λ did. IsDid did world.old world.new (Rec.Feed rank data_slot)) }
 {
@@ -198,8 +197,8 @@ pub fn number_after(alloc: Global, round: &Events, rank: u32, slot: Slot) -> Res
     let files = files_of(alloc)?;
     let m = matrix_of(alloc)?;
     let mut world = World::<F65537>::open(alloc, &script, &files, &[], 100)?;
-    feed(alloc, &mut world, &m, layout_of(), 0)?;
-    feed(alloc, &mut world, &m, layout_of(), 2)?;
+    feed(alloc, &mut world, &m, fixture_layout(), 0)?;
+    feed(alloc, &mut world, &m, fixture_layout(), 2)?;
     run_and_look(alloc, &mut world, round, rank, slot)
 }
 

@@ -1,6 +1,5 @@
 //! A script of two grids of one rank each, with a matrix on the first that is fed and printed, and two losses.
 ghost use Rattle.std.specs.Prelude.{◌≡◌, ◌<◌, [], true, IfOk};
-ghost use Rattle.script_lines.specs.Layouts.{seen};
 ghost use Rattle.world_tests.specs.OneMatrix.{files, limit, lines, matrix, setting, where_it_lies};
 ghost use Rattle.world_tests.specs.Play.{may_play};
 
@@ -54,8 +53,8 @@ fn files_of(alloc: Global) -> Result<Files, AllocError>
     Ok(result)
 }
 
-fn layout_of() -> Layout
-    ensures { seen result ≡ where_it_lies }
+fn fixture_layout() -> Layout
+    ensures { result ≡ where_it_lies }
 {
     Layout {
         grid: Grid {
@@ -198,6 +197,6 @@ pub fn played(
     let m = matrix_of(alloc)?;
     let mut taken = Vec::new(alloc);
     let mut world = World::<F65537>::open(alloc, &script, &files, &[first, second], 20)?;
-    play(alloc, &mut world, &m, layout_of(), records, &mut taken)?;
+    play(alloc, &mut world, &m, fixture_layout(), records, &mut taken)?;
     left_of(alloc, &world, taken)
 }

@@ -3,7 +3,6 @@ ghost use Rattle.std.specs.Prelude.{◌≡◌, true, IfOk};
 ghost use Rattle.rank_machine.specs.Legal.{IsLegalRec};
 ghost use Rattle.block_world.specs.World.{setting_in, state_of};
 ghost use Rattle.block_world.specs.Did.{IsDid};
-ghost use Rattle.script_lines.specs.Layouts.{seen};
 ghost use Rattle.world_tests.specs.Play.{IsOnlyMatrix, is_one_call, ready, may_play};
 
 use block_world::{Did, Mat, Rec, Slot, Taken, Tile, World};
@@ -21,7 +20,7 @@ fn feed(
     rank: u32,
     slot: Slot,
 ) -> Result<Did, AllocError>
-    requires only { IsOnlyMatrix (setting_in world.old) (seen layout) m.now }
+    requires only { IsOnlyMatrix (setting_in world.old) layout m.now }
     requires legal { IsLegalRec (setting_in world.old) (state_of world.old) (Rec.Feed rank slot) }
     ensures { IfOk result (λ did. IsDid did world.old world.new (Rec.Feed rank slot)) }
 {
@@ -65,7 +64,7 @@ fn make(
     entry: Rec,
     taken: &mut Vec<u32>,
 ) -> Result<Did, AllocError>
-    requires only { IsOnlyMatrix (setting_in world.old) (seen layout) m.now }
+    requires only { IsOnlyMatrix (setting_in world.old) layout m.now }
     requires one_call { is_one_call entry ≡ true }
     requires legal { IsLegalRec (setting_in world.old) (state_of world.old) entry }
     ensures { IfOk result (λ did. IsDid did world.old world.new entry) }
@@ -101,7 +100,7 @@ pub fn play(
     records: &[Rec],
     taken: &mut Vec<u32>,
 ) -> Result<(), AllocError>
-    requires only { IsOnlyMatrix (setting_in world.old) (seen layout) m.now }
+    requires only { IsOnlyMatrix (setting_in world.old) layout m.now }
     requires legal { may_play (setting_in world.old) world.old.journal records.now ≡ true }
 {
     for i in 0..records.len() {

@@ -3,7 +3,7 @@ ghost use Rattle.std.specs.Prelude.{◌≡◌, ◌++◌, ◌∷◌, [], Some};
 ghost use Rattle.rank_machine.specs.Scripts.{setting_of};
 ghost use Rattle.script_lines.specs.Sound.{IsSound};
 ghost use Rattle.world_tests.specs.FourRanks as four;
-ghost use Rattle.world_tests.specs.FourRanks.{IsReady};
+ghost use Rattle.world_tests.specs.FourRanks.{CanRunRound};
 
 use block_world::{
     Command, Event, Files, Kernel, Order, Piece, RankMem, Rec, Round, Script, Slot, SlotKind, Word,
@@ -162,7 +162,7 @@ fn run_of(
     round: &Round<RankMem<F65537>>,
     numbers: &[u32],
 ) -> Left
-    requires { IsReady script.now files.now round.now }
+    requires { CanRunRound script.now files.now round.now }
 {
     let mut order = order_of(rt, alloc, numbers);
     let mut world = opened(rt, alloc, script, files);

@@ -1,6 +1,5 @@
 //! A script of one grid of one rank, with a matrix of one word that is fed and printed, and no losses.
 ghost use Rattle.std.specs.Prelude.{◌≡◌, [], true, IfOk};
-ghost use Rattle.script_lines.specs.Layouts.{seen};
 ghost use Rattle.world_tests.specs.OneWord as word;
 ghost use Rattle.world_tests.specs.Play.{may_play};
 
@@ -31,8 +30,8 @@ fn files_of(alloc: Global) -> Result<Files, AllocError>
     Ok(result)
 }
 
-fn layout_of() -> Layout
-    ensures { seen result ≡ word.where_it_lies }
+fn fixture_layout() -> Layout
+    ensures { result ≡ word.where_it_lies }
 {
     Layout {
         grid: Grid {
@@ -75,6 +74,6 @@ pub fn played_word(alloc: Global, records: &[Rec]) -> Result<Left, AllocError>
     let m = matrix_of(alloc)?;
     let mut taken = Vec::new(alloc);
     let mut world = World::<F65537>::open(alloc, &script, &files, &[], 5)?;
-    play(alloc, &mut world, &m, layout_of(), records, &mut taken)?;
+    play(alloc, &mut world, &m, fixture_layout(), records, &mut taken)?;
     left_of(alloc, &world, taken)
 }

@@ -3,7 +3,7 @@ ghost use Rattle.std.specs.Prelude.{◌≤◌};
 ghost use Rattle.blacs_grid.specs.Limits.{IsGrid};
 
 use super::cases::{
-    Case, first_cells, grid_for, may_be_called, moves, number_of, own_of, rank_of, spread,
+    Case, first_cells, grid_for, may_be_called, member_number, moves, own_of, rank_of, spread,
 };
 use super::cell::{Cell, Rows};
 use blacs_comm::{NoMemory, Topology};
@@ -20,7 +20,7 @@ fn compare_cells(rt: &impl Abort, case: &Case, n: u32, cells: &[Cell; 64])
     let word = own_of(rank_of(case.scope, n, case.root % n));
     let before = first_cells();
     for (rank, (cell, old)) in cells.iter().zip(before.iter()).enumerate() {
-        let number = number_of(case.scope, n, (rank % 64) as u32);
+        let number = member_number(case.scope, n, (rank % 64) as u32);
         let work = match number {
             Some(i) if i != case.root => word,
             _ => old.work,

@@ -94,7 +94,7 @@ pub fn rank_of(scope: Scope, n: u32, i: u32) -> u32
 }
 
 /// The number of a rank among the `n` members.
-pub fn number_of(scope: Scope, n: u32, rank: u32) -> Option<u32>
+pub fn member_number(scope: Scope, n: u32, rank: u32) -> Option<u32>
     requires some { 1 ≤ n }
     requires few { n ≤ 6 }
 {

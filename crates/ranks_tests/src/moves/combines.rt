@@ -3,7 +3,7 @@ ghost use Rattle.std.specs.Prelude.{◌≤◌};
 ghost use Rattle.blacs_grid.specs.Limits.{IsGrid};
 
 use super::cases::{
-    Case, first_cells, fold, grid_for, may_be_called, moves, number_of, own_of, rank_of,
+    Case, first_cells, fold, grid_for, may_be_called, member_number, moves, own_of, rank_of,
 };
 use super::cell::{Cell, Join, Rows};
 use blacs_comm::{NoMemory, Topology};
@@ -41,7 +41,7 @@ fn compare_cells(rt: &impl Abort, case: &Case, n: u32, join: Join, to_all: bool,
     let before = first_cells();
     let root = case.root;
     for (rank, (cell, old)) in cells.iter().zip(before.iter()).enumerate() {
-        match number_of(case.scope, n, (rank % 64) as u32) {
+        match member_number(case.scope, n, (rank % 64) as u32) {
             Some(i) => {
                 if to_all || i == case.root {
                     assert!(rt; cell.own == wanted, "rank {rank}, root {root} of {n}");

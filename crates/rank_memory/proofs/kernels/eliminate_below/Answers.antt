@@ -7,7 +7,6 @@ use Rattle.run_data.proofs.PartLaws.{AreWords-tabulate}
 use Rattle.local_blas.proofs.Eliminations.{first_row}
 use Rattle.rank_machine.specs.Effect.{area}
 use Rattle.rank_machine.specs.Setting.{global_row}
-use Rattle.rank_memory.specs.Places.{layout_of}
 use Rattle.rank_memory.proofs.RowLaws.{from_end, with_eliminated-same}
 use Rattle.rank_memory.proofs.kernels.eliminate_below.Goals as goal
 
@@ -32,7 +31,7 @@ pub returns : goal.returns
 returns g c =
     let row = c.args.row.now in
     let x = area c.args.x row in
-    let d = layout_of c.args.placed.now in
+    let d = c.args.placed.now in
     c.eliminate.ensures
     ∙ with_eliminated-same g.K.Field.MODULUS (inverse g.K.Field.MODULUS) c.args.dst.now _ _ c.args.j c.in_ok-pivot_row.pivot_row (whole_part c.in_ok-pivot_row.pivot_row) row x c.requires.column
     (λ i lt. from_end i c.rows_below-from.result (global_row d c.args.rank i) c.args.above (λ h. omega (arith, c.rows_below-from.ensures.below i h, c.from.ensures))

@@ -1,4 +1,4 @@
-use Rattle.std.proofs.Common.{◌≡◌, ◌+◌, ◌-◌, ◌==◌, ◌&&◌, not, nat_lt, [], ◌∷◌, ◌∙◌, ap, sym, subst}
+use Rattle.std.proofs.Common.{◌≡◌, ◌+◌, ◌-◌, ◌==◌, ◌&&◌, not, nat_lt, [], ◌∷◌, ◌∙◌, ap, subst}
 use Rattle.std.specs.Prelude.{ℕ, IfOk}
 use Rattle.run_data.specs.Matrix.{entry}
 use Rattle.rank_machine.specs.declared.slot.Slot.{Slot}
@@ -15,7 +15,7 @@ returns c =
     let s = setting_on 0 c.args.table.now in
     let w = c.words_at-m.ensures in
     let a = c.area_of.ensures ∙ ap (area c.args.from) w in
-    let l = sym c.located-placed.ensures.layout ∙ ap (λ (x : Slot). layout s x.id) c.slot.ensures in
+    let l = c.layout_at-placed.ensures.value ∙ ap (λ (x : Slot). layout s x.id) c.slot.ensures in
     let rank = c.args.rank in
     let is : c.first_row-n.result ≡ first_row s rank (tiles_in c.args.cells.now) c.args.from c.args.j c.args.above =
     c.first_row-n.ensures

@@ -1,4 +1,4 @@
-use Rattle.std.proofs.Common.{◌≡◌, ◌+◌, [], ◌∷◌, ◌∙◌, min, ap, sym, subst}
+use Rattle.std.proofs.Common.{◌≡◌, ◌+◌, [], ◌∷◌, ◌∙◌, min, sym, subst}
 use Rattle.std.specs.Prelude.{ℕ, IfOk}
 use Rattle.rank_machine.specs.declared.slot.Tile.{Tile}
 use Rattle.rank_machine.specs.declared.slot.Tile.TheVariants.{Index}
@@ -11,10 +11,8 @@ use Rattle.rank_memory.proofs.made.zero_in.Goals as goal
 pub returns : goal.returns
 returns c =
     let s = setting_on 0 c.args.table.now in
-    let at = c.located-placed.ensures in
-    let l = sym at.layout in
-    let line = at.line in
+    let l = c.layout_at-placed.ensures.value in
     let is : c.first_zero-n.result ≡ least_of (min c.args.n (diagonal (layout s c.args.slot.id))) (λ i. number_if (is_zero_here s c.args.rank (tiles_in c.args.cells.now) c.args.slot.id i) (i + 1)) =
-    c.first_zero-n.ensures s (ap (λ (x : ℕ). layout s x) at.line ∙ at.layout)
-    ∙ (λ n. least_of (min c.args.n (diagonal (l n))) (λ i. number_if (is_zero_here s c.args.rank (tiles_in c.args.cells.now) (line n) i) (i + 1))) in
+    c.first_zero-n.ensures s (sym l)
+    ∙ (λ n. least_of (min c.args.n (diagonal (l n))) (λ i. number_if (is_zero_here s c.args.rank (tiles_in c.args.cells.now) c.args.slot.id i) (i + 1))) in
     subst (λ (v : ℕ). IfOk c.single.result (λ (t : Tile). t ≡ Index (v ∷ []))) is c.single.ensures

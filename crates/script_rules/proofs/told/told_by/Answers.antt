@@ -1,10 +1,8 @@
-use Rattle.std.proofs.Common.{◌≡◌, ◌+◌, ◌<◌, ◌≤◌, length, sym, ap, ◌∙◌, arith}
-use Rattle.std.specs.Prelude.{◌||◌}
+use Rattle.std.proofs.Common.{◌≡◌, ◌<◌, ◌≤◌, length, sym, ◌∙◌, arith}
 use Rattle.std.proofs.lemmas.Bool.{eqb-true, eqb-false}
-use Rattle.script_rules.specs.Told.{ranks_told, tells_loss}
+use Rattle.script_rules.specs.Told.{ranks_told}
 use Rattle.script_rules.proofs.ToldLines.{told_more, told_end}
 use Rattle.script_rules.proofs.told.told_by.Goals as goal
-use Rattle.script_rules.proofs.told.told_by.Goals.{then-tells_loss, else-tells_loss}
 
 pub loop-rest-preserved : goal.loop-rest-preserved
 loop-rest-preserved c =
@@ -15,19 +13,8 @@ loop-rest-preserved c =
     let lt : 0 < length rest = omega arith in
     let ranks : c.ranks_told.result ≡ ranks_told words = c.ranks_told.ensures.value in
     let few : ranks_told words ≤ 320 = omega (arith, ranks, c.ranks_told.ensures.few) in
-    let loss : tells_loss words ≡ c.tells_loss.result = ap tells_loss (c.deref.ensures.value ∙ sym c.deref-in-loop-rest.ensures.value) ∙ sym c.tells_loss.ensures in
-    let more : c.if-tells_loss.all.ranks ≡ all.ranks + ranks_told words =
-    elim c.if-tells_loss.branch [
-      | then-tells_loss w ↦ ap (λ t. t.ranks) w.all-is ∙ omega (arith, ranks, c.from.ensures)
-      | else-tells_loss w ↦ ap (λ t. t.ranks) w.all-is ∙ omega (arith, ranks, c.from.ensures)
-    ] in
-    let losses : c.if-tells_loss.all.has_losses ≡ (tells_loss words || all.has_losses) =
-    elim c.if-tells_loss.branch [
-      | then-tells_loss w ↦ ap (λ t. t.has_losses) w.all-is ∙ sym (ap (λ b. b || all.has_losses) (loss ∙ w.if-tells_loss.true))
-      | else-tells_loss w ↦ ap (λ t. t.has_losses) w.all-is ∙ sym (ap (λ b. b || all.has_losses) (loss ∙ w.if-tells_loss.false))
-    ] in
-    told_more c.args.bytes.now rest c.cut.result.0.now c.cut.result.1.now c.skip_one-rest.result.now words all c.if-tells_loss.all lt c.cut.ensures.front c.cut.ensures.back c.skip_one-rest.ensures c.cut.ensures.parts
-    (c.deref.ensures.value ∙ c.in_ok-words.ensures) more few losses c.loop-rest.invariant
+    told_more c.args.bytes.now rest c.cut.result.0.now c.cut.result.1.now c.skip_one-rest.result.now words all _ lt c.cut.ensures.front c.cut.ensures.back c.skip_one-rest.ensures c.cut.ensures.parts
+    (c.deref.ensures.value ∙ c.in_ok-words.ensures) (omega (arith, ranks, c.from.ensures)) few c.loop-rest.invariant
 
 pub returns : goal.returns
 returns c = told_end c.args.bytes.now c.loop-rest.rest.now c.loop-rest.all (eqb-true _ _ (sym c.is_empty.ensures ∙ c.loop-rest-test.false)) c.loop-rest.invariant

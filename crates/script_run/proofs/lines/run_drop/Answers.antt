@@ -13,18 +13,18 @@ use Rattle.script_run.proofs.DropLine.{dropped-name, drop-whole, drop-ran}
 use Rattle.script_run.proofs.lines.run_drop.Goals as goal
 
 pub overflow_add-done : goal.overflow_add-done
-overflow_add-done c =
+overflow_add-done g c =
     let there = dropped-name (command_at (commands_of c.args.script.now) (c.args.done + 1)) c.requires.line in
     omega (arith, line-few c.args.script.now (c.args.done + 1) (Discard there.0) c.requires.runnable.accepted.lines there.1)
 
 pub drive_line-requires-clause-line : goal.drive_line-requires-clause-line
-drive_line-requires-clause-line c =
+drive_line-requires-clause-line g c =
     drop-whole c.args.script.now c.args.world.now.files c.args.done c.args.world.now c.args.out.now c.requires.runnable c.requires.before
     (subst (λ k. DropsName (command_at (commands_of c.args.script.now) k)) (add-one c.args.done) c.requires.line)
     c.new-phase.result.mark (c.new-phase.ensures.mark ∙ (c.end_of.ensures ∙ ap end_mark (add-one c.args.done)))
 
 pub returns-clause-ran : goal.returns-clause-ran
-returns-clause-ran c =
+returns-clause-ran g c =
     let script = c.args.script.now in
     let files = c.args.world.now.files in
     subst (λ k. IfOk c.drive_line.result (IfDrove (HasRun script files k c.drive_line.new.world c.args.out.now) (IsStopped script files c.args.done c.drive_line.new.world c.args.out.now))) (sym (add-one c.args.done))

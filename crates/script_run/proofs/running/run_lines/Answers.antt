@@ -4,17 +4,17 @@ use Rattle.script_run.proofs.running.run_lines.Goals as goal
 use Rattle.script_run.proofs.running.run_lines.Goals.{in-Some+in_ok-cut+in-Done, in_default}
 
 pub run_line-requires-clause-line : goal.run_line-requires-clause-line
-run_line-requires-clause-line c =
+run_line-requires-clause-line g c =
     let script = c.args.script.now in
     here script c.loop-i.i c.index-lines-i.result (subst (λ k. c.loop-i.i < k) c.lines-i-end.ensures c.loop-i-test.true)
     (subst (λ xs. c.index-lines-i.result ≡ get_or xs c.loop-i.i c.index-lines-i.result) c.as_slice-lines.ensures c.index-lines-i.is)
     ∙ c.in-Some.is
 
 pub returns-in_default-2 : goal.returns-in_default-2
-returns-in_default-2 c = record { ran = cut-line c.args.script.now c.args.files.now c.loop-i.i c.run_line.new.world c.run_line.new.out.items c.in_ok-cut.cut c.in_default-2.not-Done c.in_ok-cut.ensures.ran }
+returns-in_default-2 g c = record { ran = cut-line c.args.script.now c.args.files.now c.loop-i.i c.run_line.new.world c.run_line.new.out.items c.in_ok-cut.cut c.in_default-2.not-Done c.in_ok-cut.ensures.ran }
 
 pub loop-i-preserved : goal.loop-i-preserved
-loop-i-preserved c =
+loop-i-preserved g c =
     let script = c.args.script.now in
     let files = c.args.files.now in
     let lt : c.loop-i.i < length script = subst (λ k. c.loop-i.i < k) c.lines-i-end.ensures c.loop-i-test.true in
@@ -29,6 +29,6 @@ loop-i-preserved c =
     ]
 
 pub returns : goal.returns
-returns c = record {
+returns g c = record {
   ran = all-lines c.args.script.now c.args.files.now c.loop-i.i c.loop-i.world c.loop-i.site c.loop-i.out.items c.loop-i.invariant (subst (λ k. k ≤ c.loop-i.i) c.lines-i-end.ensures c.loop-i-test.false);
 }

@@ -14,8 +14,8 @@ use Rattle.script_text.proofs.checking.first_broken.Goals as goal
 pub returns-in-Err : goal.returns-in-Err
 returns-in-Err c =
     let script = c.args.script.now in
-    let told : Told = record { ranks = c.all_ranks.result; has_losses = c.has_loss.result } in
-    let same : told ≡ told_of (commands_of script) = λ i. record { ranks = c.all_ranks.ensures i; has_losses = c.has_loss.ensures i } in
+    let told : Told = record { ranks = c.all_ranks.result } in
+    let same : told ≡ told_of (commands_of script) = λ i. record { ranks = c.all_ranks.ensures i } in
     let fits : SFits w32 c.in-Err.code = search search_rules in
     let within : c.loop-place.place < length script = omega (arith, c.loop-place-test.true, c.lines-place-end.ensures) in
     let line : suc c.loop-place.place ≡ c.loop-place.place + 1 = omega arith in
@@ -26,13 +26,13 @@ returns-in-Err c =
 pub loop-place-preserved : goal.loop-place-preserved
 loop-place-preserved c =
     let within : c.loop-place.place < length c.args.script.now = omega (arith, c.loop-place-test.true, c.lines-place-end.ensures) in
-    checked_more (record { ranks = c.all_ranks.result; has_losses = c.has_loss.result }) c.args.script.now c.loop-place.place c.loop-place.counts c.in-Ok.after within c.in-Ok.ensures.kept
+    checked_more (record { ranks = c.all_ranks.result }) c.args.script.now c.loop-place.place c.loop-place.counts c.in-Ok.after within c.in-Ok.ensures.kept
     c.in-Ok.ensures.counted c.loop-place.invariant
 
 pub returns : goal.returns
 returns c =
     let script = c.args.script.now in
-    let told : Told = record { ranks = c.all_ranks.result; has_losses = c.has_loss.result } in
-    let same : told ≡ told_of (commands_of script) = λ i. record { ranks = c.all_ranks.ensures i; has_losses = c.has_loss.ensures i } in
+    let told : Told = record { ranks = c.all_ranks.result } in
+    let same : told ≡ told_of (commands_of script) = λ i. record { ranks = c.all_ranks.ensures i } in
     let all : c.loop-place.place ≡ length script = omega (arith, c.loop-place-test.false, c.loop-place.auto.place-end, c.lines-place-end.ensures) in
     sym (checked_end told script c.loop-place.place c.loop-place.counts all c.loop-place.invariant) ∙ ap (λ t. first_broken t [] script) same

@@ -6,7 +6,7 @@ use Rattle.script_rules.specs.Told.{told_by}
 use Rattle.script_bounds.specs.Bounds.{bound}
 use Rattle.script_words.specs.Limits.{record_limit}
 use Rattle.script_text.proofs.Keeping.{read-all, read-above}
-use Rattle.script_text.proofs.Telling.{KeepsRules-from_script_after, apart-from_script_after}
+use Rattle.script_text.proofs.Telling.{KeepsRules-from_script_after}
 use Rattle.script_text.proofs.Passing.{first_refusal-from_script_after}
 use Rattle.script_text.proofs.reading.parse_script.Goals as goal
 
@@ -36,7 +36,7 @@ returns-clause-accepted c =
     let script = c.in_ok-script.script in
     let read : script_after (told_by lines) [] lines ≡ Ok script = ap (λ t. script_after t [] lines) (sym c.in_ok-told.ensures) ∙ c.in_ok-script.ensures in
     let within : bound (commands_of script) ≤ record_limit = omega (arith, c.bound.ensures, c.if-bound-gt-MAX_RECORDS.false) in
-    record { lines = KeepsRules-from_script_after lines script read; apart = apart-from_script_after lines script read; bounded = within }
+    record { lines = KeepsRules-from_script_after lines script read; bounded = within }
 
 pub returns-clause-checked : goal.returns-clause-checked
 returns-clause-checked c =

@@ -2,7 +2,7 @@ use Rattle.std.proofs.Common.{suc, drop}
 use Rattle.field_core.specs.Residue.{inverse}
 use Rattle.run_data.specs.Script.{commands_of, commands_from}
 use Rattle.rank_machine.specs.Scripts.{file_of}
-use Rattle.serial_model.specs.Serial.{run_under}
+use Rattle.serial_model.specs.Serial.{texts_under, no_values}
 use Rattle.serial_machine.specs.Values.{values_of}
 use Rattle.serial_machine.proofs.Running.{InRun}
 use Rattle.serial_machine.proofs.run.serial.Given as goal
@@ -10,4 +10,5 @@ use Rattle.serial_machine.proofs.run.serial.Given as goal
 abbrev pub invariant-loop-i : goal.invariant-loop-i
 invariant-loop-i g l =
     let p = g.K.Field.MODULUS in
-    InRun p (inverse p) l.files (run_under p (inverse p) (file_of l.files) (commands_of l.script)) (commands_from (suc l.i) (drop l.i l.lines)) (values_of l.values.entries.items) l.out.items
+    let script = commands_of l.script in
+    InRun p (inverse p) script l.files (texts_under p (inverse p) script (file_of l.files) script no_values) (commands_from (suc l.i) (drop l.i l.lines)) (values_of l.values.entries.items) l.out.items

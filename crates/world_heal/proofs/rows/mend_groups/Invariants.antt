@@ -1,8 +1,7 @@
 use Rattle.std.proofs.Common.{◌*◌}
-use Rattle.script_lines.specs.Layouts.{seen}
 use Rattle.recovery_counts.specs.Counted.{round_most}
 use Rattle.world_heal.specs.Mended.{HasMended, AreGroupsHealed}
 use Rattle.world_heal.proofs.rows.mend_groups.Given as goal
 
 abbrev pub invariant-loop-group : goal.invariant-loop-group
-invariant-loop-group g l = HasMended (l.group * round_most (seen l.layout)) (AreGroupsHealed l.line l.row l.group) l.initial.world l.world
+invariant-loop-group g l = HasMended (l.group * round_most l.layout) (AreGroupsHealed l.line l.row l.group) l.initial.world l.world

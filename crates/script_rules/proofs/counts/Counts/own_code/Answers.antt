@@ -1,7 +1,8 @@
 use Rattle.std.proofs.Common.{ap, ◌∙◌}
 use Rattle.run_data.specs.Script.{commands_of}
-use Rattle.script_rules.specs.Rules.{maker_command, process_rows, process_columns, matrix_words, layout_of}
-use Rattle.script_rules.proofs.Inside.{own_matrix, own_list, own_print}
+use Rattle.run_data.specs.Flips.{pending}
+use Rattle.script_rules.specs.Rules.{maker_command, process_rows, process_columns, matrix_words, distribution_of}
+use Rattle.script_rules.proofs.Inside.{own_matrix, own_list, own_flip, own_pverify, own_print}
 use Rattle.script_rules.proofs.counts.Counts.own_code.Goals as goal
 
 pub returns-in-Matrix : goal.returns-in-Matrix
@@ -15,8 +16,20 @@ returns-in-Matrix c =
 pub returns-in-Pgetrf : goal.returns-in-Pgetrf
 returns-in-Pgetrf c =
     let w = c.in-Pgetrf in
-    own_list c.args.told c.args.script.now c.args.line c.args.command.now c.args.self w.m w.n w.a w.ia w.ja w.v _ _ _ w.is c.requires.some c.requires.within c.requires.counts
-    c.saturating_sub-live-in-Pgetrf.ensures (c.layout_of.ensures ∙ ap (layout_of (commands_of c.args.script.now) c.args.line) c.bytes-in-Pgetrf.ensures) c.list_code.ensures
+    own_list c.args.told c.args.script.now c.args.line c.args.command.now c.args.self w.m w.n w.a w.ia w.ja w.v _ _ w.is c.requires.counts c.saturating_sub-live-in-Pgetrf.ensures c.list_code.ensures
+
+pub returns-in-Flip : goal.returns-in-Flip
+returns-in-Flip c =
+    let w = c.in-Flip in
+    own_flip c.args.told c.args.script.now c.args.line c.args.command.now c.args.self w.name w.i w.j w.x _ _ _ w.is c.requires.some c.requires.within c.requires.counts
+    (c.distribution_of-a.ensures ∙ ap (distribution_of (commands_of c.args.script.now) c.args.line) c.bytes-in-Flip.ensures)
+    (ap (pending (commands_of c.args.script.now) c.args.line) c.bytes-in-Flip-2.ensures) c.flip_code.ensures
+
+pub returns-in-Pverify : goal.returns-in-Pverify
+returns-in-Pverify c =
+    let w = c.in-Pverify in
+    own_pverify c.args.told c.args.script.now c.args.line c.args.command.now w.name _ _ w.is c.requires.some c.requires.within
+    (c.distribution_of.ensures ∙ ap (distribution_of (commands_of c.args.script.now) c.args.line) c.bytes-in-Pverify.ensures) c.pverify_code.ensures
 
 pub returns-in-Print : goal.returns-in-Print
 returns-in-Print c =

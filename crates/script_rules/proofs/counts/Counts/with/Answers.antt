@@ -2,7 +2,7 @@ use Rattle.std.proofs.Common.{◌+◌, sym, ap, ◌∙◌, subst}
 use Rattle.script_rules.specs.Counted.{commands_before}
 use Rattle.script_rules.proofs.Inside.{next_line, maker_command-before}
 use Rattle.script_rules.specs.Rules.{matrix_words, maker_command}
-use Rattle.script_rules.proofs.Counting.{CountWith, counts_grid, counts_matrix, counts_list, counts_print, counts_links, counts_spares, counts_order, AreCounts-same, CountsNothing-from_others}
+use Rattle.script_rules.proofs.Counting.{CountWith, counts_grid, counts_matrix, counts_list, counts_print, counts_links, counts_spares, counts_field, counts_order, AreCounts-same, CountsNothing-from_others}
 use Rattle.script_rules.proofs.counts.Counts.with.Goals as goal
 
 pub returns-in-Grid : goal.returns-in-Grid
@@ -37,6 +37,10 @@ pub returns-in-Spares : goal.returns-in-Spares
 returns-in-Spares c =
     counts_spares c.requires.kept.0 c.args.self _ c.args.line (commands_before c.args.script.now c.args.line) c.args.command.now c.in-Spares.n c.in-Spares.is c.requires.counts (next_line c.args.line c.requires.some) c.requires.kept.1
 
+pub returns-in-Field : goal.returns-in-Field
+returns-in-Field c =
+    counts_field c.requires.kept.0 c.args.self _ c.args.line (commands_before c.args.script.now c.args.line) c.args.command.now c.in-Field.n c.in-Field.is c.requires.counts (next_line c.args.line c.requires.some) c.requires.kept.1
+
 pub returns-in-Order : goal.returns-in-Order
 returns-in-Order c =
     let cs = commands_before c.args.script.now c.args.line in
@@ -48,4 +52,4 @@ returns-in_default c =
     let cs = commands_before c.args.script.now c.args.line in
     let w = c.in_default in
     AreCounts-same c.args.self _ c.args.line cs c.args.command.now c.requires.counts (next_line c.args.line c.requires.some)
-    (CountsNothing-from_others cs c.args.line c.args.command.now w.not-Grid w.not-Matrix w.not-Pgetrf w.not-Print w.not-Discard w.not-Links w.not-Spares w.not-Order)
+    (CountsNothing-from_others cs c.args.line c.args.command.now w.not-Grid w.not-Matrix w.not-Pgetrf w.not-Print w.not-Discard w.not-Links w.not-Spares w.not-Order w.not-Field)
