@@ -9,6 +9,7 @@ use local_blas::{
     Mat, Part, add_scaled, eliminate, first_nonzero, mul_add, put_part, scale, solve_lower,
     solve_upper, swap_rows,
 };
+use std::alloc::Global;
 use std::process::Abort;
 
 /// All of a matrix.
@@ -189,6 +190,66 @@ fn solves(rt: HostRuntime) {
     let mut x = matrix(&rt, alloc, 3, 1, &[1, 2, 3]);
     solve_above::<F65537>(&rt, &mut x, &upper, true);
     check_is(&rt, &x, &[227, 65500, 3]);
+}
+
+/// A matrix of mixed words, none of them 0.
+fn mixed(rt: &impl Abort, alloc: Global, rows: u32, cols: u32) -> Mat {
+    let mut m = zeros(rt, alloc, rows, cols);
+    let mut word: u32 = 1;
+    for x in m.words_mut().iter_mut() {
+        word = word.wrapping_mul(25173).wrapping_add(13849) % 65536;
+        *x = word.max(1);
+    }
+    m
+}
+
+/// The word at a place; the test ends where there is none.
+fn word(rt: &impl Abort, m: &Mat, i: u32, j: u32) -> u64 {
+    assert!(rt; i < m.rows() && j < m.cols());
+    u64::from(m.get(i, j))
+}
+
+/// A row of a triangle times a column, by a plain loop over whole numbers.
+fn row_times(rt: &impl Abort, triangle: &Mat, lower: bool, row: u32, x: &Mat, column: u32) -> u64 {
+    let mut sum: u64 = 0;
+    for k in 0..triangle.cols() {
+        if k == row || (k < row) == lower {
+            let product = word(rt, triangle, row, k).wrapping_mul(word(rt, x, k, column));
+            sum = sum.wrapping_add(product);
+        }
+    }
+    sum
+}
+
+/// Stops where a triangle times a column of what was solved isn't what was given.
+fn check_column(rt: &impl Abort, triangle: &Mat, lower: bool, x: &Mat, given: &Mat, column: u32) {
+    for row in 0..given.rows() {
+        let sum = row_times(rt, triangle, lower, row, x, column);
+        assert!(rt; sum % 65537 == word(rt, given, row, column));
+    }
+}
+
+/// Stops where solves of so many rows don't give what a plain product takes back.
+fn check_solves(rt: &impl Abort, alloc: Global, rows: u32) {
+    let triangle = mixed(rt, alloc, rows, rows);
+    let given = mixed(rt, alloc, rows, 2);
+    let mut below = mixed(rt, alloc, rows, 2);
+    let mut above = mixed(rt, alloc, rows, 2);
+    solve_below::<F65537>(rt, &mut below, &triangle, false);
+    solve_above::<F65537>(rt, &mut above, &triangle, false);
+    for column in 0..2 {
+        check_column(rt, &triangle, true, &below, &given, column);
+        check_column(rt, &triangle, false, &above, &given, column);
+    }
+}
+
+/// Triangles of fewer and of more rows than there are lanes, cut at sixteen rows and elsewhere.
+#[test]
+fn solves_by_halves(rt: HostRuntime) {
+    for rows in 1..41 {
+        check_solves(&rt, rt.alloc(), rows);
+    }
+    check_solves(&rt, rt.alloc(), 97);
 }
 
 #[test]

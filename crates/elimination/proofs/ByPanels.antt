@@ -2,7 +2,6 @@
 use Rattle.std.proofs.Common.{◌≡◌, ℕ, zero, suc, ◌+◌, ◌-◌, ◌<◌, ◌≤◌, ◌⊎◌, min, List, [], length, get_or, refl, sym, ◌∙◌, ap, subst, arith, inl, inr}
 use Rattle.std.proofs.Math.Path.{fun_ext}
 use Rattle.std.proofs.lemmas.Bool.{cases_lt}
-use Rattle.std.proofs.lemmas.Bool.Decides.{nat_tests}
 use Rattle.run_data.specs.declared.matrix.Part.{Part}
 use Rattle.run_data.specs.Matrix.{Matrix, cols, entry, IsShaped, tabulate}
 use Rattle.run_data.specs.Parts.{IsWithin, SameShape, patched, part_of, with_copy}
@@ -11,21 +10,17 @@ use Rattle.run_data.proofs.PartLaws.{AreWords-from_inside, AreWords-tabulate, ro
 use Rattle.local_blas.specs.Kernels.{AreWords}
 use Rattle.serial_model.specs.Elimination.{Eliminated, eliminate_columns, untouched, elimination, least_zero, diagonal, pivot_row, came_from, exchanged}
 use Rattle.elimination.specs.Panels.{IsReady, AgreesOn, IsPanel, carried}
-use Rattle.elimination.specs.Whole.{AreRows, with_rows_exchanged, with_carried, strip_of_words, strip_state, whole_state}
+use Rattle.elimination.specs.Whole.{AreRows, cut_columns, with_rows_exchanged, with_carried, strip_of_words, strip_state, whole_state}
 use Rattle.elimination.proofs.Steps.{step-agrees}
 use Rattle.elimination.proofs.PanelLaws.{ready-columns, columns-agree, columns-split, column-carried_by, column-exchanged_by}
 use Rattle.elimination.proofs.Info.{least_zero-same, info-is_test}
 use Rattle.elimination.proofs.Numbers.{columns-count, columns-rows}
 use Rattle.elimination.proofs.Words.{ready_whole, ready-matrix}
-use Rattle.elimination.proofs.WholeSteps.{patched_in, patched_left}
+use Rattle.elimination.proofs.WholeSteps.{patched_in, patched_left, patched_right}
 
 -- all rows of some columns
 abbrev pub columns_part : ℕ → ℕ → ℕ → Part
 columns_part m c0 c1 = record { r0 = 0; r1 = m; c0 = c0; c1 = c1 }
-
--- the columns from c0 to c1 - 1, as a matrix of their own
-abbrev pub cut_columns : Matrix → ℕ → ℕ → Matrix
-cut_columns a c0 c1 = tabulate a.rows (c1 - c0) (λ i j. entry a i (c0 + j))
 
 pub cut_is : (a b : Matrix) (at : Part) (c0 c1 : ℕ) → at ≡ columns_part a.rows c0 c1 → b ≡ part_of a at → b ≡ cut_columns a c0 c1
 cut_is a b at c0 c1 eat e =
@@ -62,10 +57,6 @@ copied_inside dst src m q w c0 c1 i k hi hk hm h1 h2 =
     let f : ℕ → ℕ → ℕ = λ i j. entry src (0 + (i - 0)) (0 + (j - c0)) in
     entry-tabulate dst.rows (cols dst) (patched (columns_part m c0 c1) f (entry dst)) i k hi hk ∙ patched_in (columns_part m c0 c1) f (entry dst) i k (omega arith) hm h1 h2
     ∙ ap (λ r. entry src r (0 + (k - c0))) (let e : 0 + (i - 0) ≡ i = omega arith in e) ∙ ap (entry src i) (let e : 0 + (k - c0) ≡ k - c0 = omega arith in e)
-
-patched_right : (at : Part) (f g : ℕ → ℕ → ℕ) (r c : ℕ) → at.c1 ≤ c → patched at f g r c ≡ g r c
-unfolding patched
-patched_right at f g r c h = grind (arith, nat_tests)
 
 copied_outside : (dst src : Matrix) (m q w c0 c1 i k : ℕ) → i < dst.rows → k < cols dst → (k < c0) ⊎ (c1 ≤ k) → entry (with_copy dst (columns_part m c0 c1) src (columns_part q 0 w)) i k ≡ entry dst i k
 copied_outside dst src m q w c0 c1 i k hi hk out =

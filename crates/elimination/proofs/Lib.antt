@@ -21,3 +21,5 @@ mod WholeLoops
 mod WholeFits
 mod WholeCarried
 mod ByPanels
+mod Pieces
+mod ByHalves

@@ -4,9 +4,7 @@ use Rattle.std.proofs.lemmas.Bool.{cases_eq, cases_lt, lt-ltb, le-ltb}
 use Rattle.field_core.specs.Sums.{sum_to}
 use Rattle.field_core.proofs.Modular.{residues}
 use Rattle.field_core.proofs.Sums.{sum_to-none, sum_to-suc, sum_to-same}
-use Rattle.local_blas.specs.Kernels.{solution, divided}
-use Rattle.local_blas.proofs.Solutions.{solution-equation}
-use Rattle.local_blas.proofs.SolutionLaws.{solution_is}
+use Rattle.local_blas.proofs.SolutionLaws.{solution-same, solution_is}
 use Rattle.elimination.specs.Panels.{solved, reduced}
 use Rattle.elimination.proofs.Exchanges.{lose, updated}
 
@@ -98,17 +96,6 @@ updated-is p inverse l first n x below i =
             | inr under ↦ updated-below p inverse l first n x below i under
           ])
     ]
-
--- a word of the solution reads the rows up to it alone, and of them the columns up to the diagonal
-pub solution-same : (p : ℕ) (inverse : ℕ → ℕ) (unit : Bool) (l l' : ℕ → ℕ → ℕ) (b b' : ℕ → ℕ) (i : ℕ) → ((r k : ℕ) → r ≤ i → k ≤ r → l r k ≡ l' r k) → ((r : ℕ) → r ≤ i → b r ≡ b' r) → solution p inverse unit l b i ≡ solution p inverse unit l' b' i
-solution-same p inverse unit l l' b b' i el eb =
-    solution_is p inverse unit l' b' (solution p inverse unit l b) (suc i)
-    (λ r hr. solution-equation p inverse unit l b r
-    ∙ ap (λ d. divided p inverse unit d ((b r + (p - 1) * sum_to r (λ k. l r k * solution p inverse unit l b k)) % p)) (el r r (omega arith) (omega arith))
-    ∙ ap (λ y. divided p inverse unit (l' r r) ((y + (p - 1) * sum_to r (λ k. l r k * solution p inverse unit l b k)) % p)) (eb r (omega arith))
-    ∙ ap (λ s. divided p inverse unit (l' r r) ((b' r + (p - 1) * s) % p))
-    (sum_to-same r (λ k. l r k * solution p inverse unit l b k) (λ k. l' r k * solution p inverse unit l b k) (λ k hk. ap (λ y. y * solution p inverse unit l b k) (el r k (omega arith) (omega arith)))))
-    i (omega arith)
 
 -- reduced columns read the columns from first to first + n - 1 of the triangle alone
 pub reduced-same : (p : ℕ) (inverse : ℕ → ℕ) (unit : Bool) (l l' : ℕ → ℕ → ℕ) (first n : ℕ) (x : ℕ → ℕ) → ((i k : ℕ) → first ≤ k → k < first + n → l i k ≡ l' i k) → (i : ℕ) → reduced p inverse unit l first n x i ≡ reduced p inverse unit l' first n x i

@@ -10,13 +10,15 @@ use Rattle.run_data.specs.Parts.{patched, with_part, part_entry, with_copy, whol
 use Rattle.run_data.proofs.Matrices.{rows-tabulate, cols-tabulate, entry-tabulate}
 use Rattle.run_data.proofs.PartLaws.{rows-with_part, cols-with_part}
 use Rattle.local_blas.specs.Kernels.{solution, upper_solution, swapped, eliminated_word, multiplier, with_rows_swapped, product_word, with_scaled}
+use Rattle.local_blas.proofs.SolutionLaws.{solution-same}
+use Rattle.local_blas.proofs.UpperSolutions.{upper_solution-same}
 use Rattle.local_blas.proofs.Eliminations.{eliminated_word-first, eliminated_word-later}
 use Rattle.serial_model.specs.Elimination.{exchange, divide, subtract, pivot_from, with_pivot, Eliminated, eliminate_column, pivot_row, came_from, exchanged}
 use Rattle.elimination.specs.Panels.{solved, reduced}
 use Rattle.elimination.specs.Solves.{upper_solved, upper_reduced, gained}
 use Rattle.elimination.specs.Strips.{RowMap, IsRowMap, IsBlock, rows_below, row_at, row_owner, row_place, Hold, held, AreExchanged, in_rows, solved_rows, upper_solved_rows, gained_rows, span, block_rows, AreSolved, AreUpperSolved, HaveGained, AreEliminated, one_row, HaveAdded, added_words}
-use Rattle.elimination.proofs.Reductions.{solution-same, reduced-above, reduced-among, reduced-under}
-use Rattle.elimination.proofs.UpperLaws.{upper_solution-same, upper_reduced-above, upper_reduced-among, upper_reduced-under}
+use Rattle.elimination.proofs.Reductions.{reduced-above, reduced-among, reduced-under}
+use Rattle.elimination.proofs.UpperLaws.{upper_reduced-above, upper_reduced-among, upper_reduced-under}
 use Rattle.elimination.proofs.Words.{multiplier_at, column-above, column-left, column-multiplier, column-right}
 use Rattle.elimination.proofs.Pivots.{pivot_from-none, pivot_from-some}
 use Rattle.elimination.proofs.StripMaps.{row_owner-lt, row_at-owner, row_owner-at, row_place-at, row_place-lt, row_at-lt, place-before, place-from, block_row, in_block, block_owner, block_place}

@@ -7,11 +7,10 @@ use Rattle.field_core.specs.Sums.{sum_to}
 use Rattle.field_core.proofs.Modular.{residues}
 use Rattle.field_core.proofs.Sums.{sum_to-same, sum_to-split}
 use Rattle.field_core.proofs.WeightedSums.{weighted-product_added}
-use Rattle.local_blas.specs.Kernels.{upper_solution, from_last}
-use Rattle.local_blas.proofs.UpperSolutions.{upper_solution-weighted, upper_solution-last_block, upper_solution-first_block}
+use Rattle.local_blas.specs.Kernels.{upper_solution}
+use Rattle.local_blas.proofs.UpperSolutions.{upper_solution-same, upper_solution-weighted, upper_solution-last_block, upper_solution-first_block}
 use Rattle.elimination.specs.Solves.{upper_solved, upper_reduced, gained}
 use Rattle.elimination.specs.CodeLaw.{IsWeightedSum}
-use Rattle.elimination.proofs.Reductions.{solution-same}
 
 pub upper_reduced-above : (p : ℕ) (inverse : ℕ → ℕ) (unit : Bool) (u : ℕ → ℕ → ℕ) (first n : ℕ) (x : ℕ → ℕ) (i : ℕ) → i < first → upper_reduced p inverse unit u first n x i ≡ (x i + (p - 1) * sum_to n (λ k. u i (first + k) * upper_solved p inverse unit u first n x k)) % p
 unfolding upper_reduced
@@ -43,13 +42,6 @@ upper_solved-last p inverse unit u first m n x k h =
     ap (λ t. upper_solution p inverse unit n t (λ i. x (first + m + i)) k) triangle
     ∙ ap (λ b. upper_solution p inverse unit n (λ i k. u (first + (m + i)) (first + (m + k))) b k) right
     ∙ sym (upper_solution-last_block p inverse unit m n (λ i k. u (first + i) (first + k)) (λ i. x (first + i)) k h)
-
--- a word of the upper solution of n rows reads the first n rows and columns alone
-pub upper_solution-same : (p : ℕ) (inverse : ℕ → ℕ) (unit : Bool) (n : ℕ) (u u' : ℕ → ℕ → ℕ) (b b' : ℕ → ℕ) → ((r k : ℕ) → r < n → k < n → u r k ≡ u' r k) → ((i : ℕ) → i < n → b i ≡ b' i) → (i : ℕ) → i < n → upper_solution p inverse unit n u b i ≡ upper_solution p inverse unit n u' b' i
-upper_solution-same p inverse unit n u u' b b' triangle same i h =
-    solution-same p inverse unit (λ r k. u (from_last n r) (from_last n k)) (λ r k. u' (from_last n r) (from_last n k)) (λ k. b (from_last n k)) (λ k. b' (from_last n k)) (from_last n i)
-    (λ r k _ _. triangle (from_last n r) (from_last n k) (let e : n - 1 - r < n = omega arith in e) (let e : n - 1 - k < n = omega arith in e))
-    (λ r hr. same (from_last n r) (let e : n - 1 - r < n = omega arith in e))
 
 -- so are the first rows' words, once the last rows were taken off
 upper_solved-first : (p : ℕ) (inverse : ℕ → ℕ) (unit : Bool) (u : ℕ → ℕ → ℕ) (first m n : ℕ) (x : ℕ → ℕ) (k : ℕ) → k < m → upper_solved p inverse unit u first m (upper_reduced p inverse unit u (first + m) n x) k ≡ upper_solved p inverse unit u first (m + n) x k

@@ -10,10 +10,11 @@ use Rattle.run_data.specs.Parts.{patched, part_of}
 use Rattle.run_data.proofs.Matrices.{tabulate-same, rows-tabulate, cols-tabulate, entry-tabulate}
 use Rattle.local_blas.specs.Kernels.{AreWords, solution, with_solved_lower, with_product, part_entry, product_word}
 use Rattle.local_blas.proofs.Solutions.{solution-below}
+use Rattle.local_blas.proofs.SolutionLaws.{solution-same}
 use Rattle.run_data.proofs.PartLaws.{AreWords-tabulate, AreWords-with_part, rows-with_part, cols-with_part}
 use Rattle.serial_model.specs.Elimination.{came_from, exchanged}
 use Rattle.elimination.specs.Panels.{solved, carried}
-use Rattle.elimination.proofs.Reductions.{solution-same, reduced-above, reduced-among, reduced-under}
+use Rattle.elimination.proofs.Reductions.{reduced-above, reduced-among, reduced-under}
 use Rattle.elimination.proofs.WholeSteps.{patched_in, patched_above}
 use Rattle.elimination.specs.Whole.{with_rows_exchanged, with_carried}
 

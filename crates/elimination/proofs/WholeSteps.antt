@@ -28,6 +28,10 @@ pub patched_left : (at : Part) (f g : ℕ → ℕ → ℕ) (r c : ℕ) → c < a
 unfolding patched
 patched_left at f g r c h = grind (arith, nat_tests)
 
+pub patched_right : (at : Part) (f g : ℕ → ℕ → ℕ) (r c : ℕ) → at.c1 ≤ c → patched at f g r c ≡ g r c
+unfolding patched
+patched_right at f g r c h = grind (arith, nat_tests)
+
 -- the kernels do one column of a strip: the rows change places, and the rows below lose their multiples of the pivot's row
 pub strip_step : (p : ℕ) (inverse : ℕ → ℕ) (a b row u : Matrix) (first j r : ℕ) → first + j < a.rows → j < cols a → b ≡ with_rows_swapped a (first + j) r → row ≡ part_of b (record { r0 = first + j; r1 = first + j + 1; c0 = 0; c1 = cols a }) → u ≡ with_eliminated p inverse b (nat_le (first + j + 1)) j row (whole_part row) → ((i : ℕ) → i < a.rows → swapped (first + j) r i < a.rows) → u ≡ strip_of_words a.rows (cols a) first (subtract p (first + j) (divide p inverse (first + j) (exchange (first + j) r (strip_words first a))))
 strip_step p inverse a b row u first j r hd hj eb erow eu inside =

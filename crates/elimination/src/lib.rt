@@ -10,6 +10,7 @@
 
 pub mod by_panels;
 pub mod code;
+mod columns;
 pub mod panel;
 pub mod solve;
 pub mod strip;

@@ -7,10 +7,14 @@ ghost use Rattle.local_blas.specs.Kernels.{AreWords};
 ghost use Rattle.serial_model.specs.Elimination.{eliminate_column, eliminate_columns};
 ghost use Rattle.elimination.specs.Whole.{AreRows, with_rows_exchanged, with_carried, strip_of_words, strip_state};
 
+use crate::columns::{columns_of, put_columns};
 use field_core::Field;
 use local_blas::{eliminate, first_nonzero, mul_add, solve_lower, swap_rows};
 use run_data::{Mat, Part};
 use std::alloc::{AllocError, Global};
+
+/// A strip of which at most so many columns are eliminated is not cut in two.
+const NARROW: u32 = 8;
 
 /// The rows `first`, .., `first + n - 1` change places with those of the pivots, in order.
 pub fn exchange_rows(x: &mut Mat, pivots: &[u32], first: u32, n: u32)
@@ -125,8 +129,8 @@ pub fn eliminate_strip_column<K: Field>(
 }
 
 /// The first `n` columns of the strip `a`, which begins at column `first` of the whole, are
-/// eliminated, and their pivots' rows are added to the list.
-pub fn eliminate_strip<K: Field>(
+/// eliminated one after another, and their pivots' rows are added to the list.
+fn eliminate_narrow_strip<K: Field>(
     alloc: Global,
     a: &mut Mat,
     pivots: &mut Vec<u32>,
@@ -144,5 +148,39 @@ pub fn eliminate_strip<K: Field>(
     for j in 0..n {
         eliminate_strip_column::<K>(alloc, a, pivots, first, j)?;
     }
+    Ok(())
+}
+
+/// The first `n` columns of the strip `a`, which begins at column `first` of the whole, are
+/// eliminated, and their pivots' rows are added to the list: first one half of them, which is
+/// carried to all columns right of it, and then the other.
+pub fn eliminate_strip<K: Field>(
+    alloc: Global,
+    a: &mut Mat,
+    pivots: &mut Vec<u32>,
+    first: u32,
+    n: u32,
+) -> Result<(), AllocError>
+    requires inside { first + n ≤ a.old.rows }
+    requires columns { n ≤ cols a.old }
+    requires count { length pivots.old.items ≡ first }
+    requires words { AreWords K.MODULUS a.old }
+    ensures matrix { IfOk result (λ _. a.new ≡ strip_of_words a.old.rows (cols a.old) first (eliminate_columns K.MODULUS (inverse K.MODULUS) a.old.rows first n (strip_state first a.old pivots.old.items)).words) }
+    ensures list { IfOk result (λ _. pivots.new.items ≡ (eliminate_columns K.MODULUS (inverse K.MODULUS) a.old.rows first n (strip_state first a.old pivots.old.items)).pivots) }
+{
+    let _shaped = a.rows();
+    if n <= NARROW {
+        return eliminate_narrow_strip::<K>(alloc, a, pivots, first, n);
+    }
+    let half = n / 2;
+    let end = a.cols();
+    let mut left = columns_of(alloc, a, 0, half)?;
+    let mut right = columns_of(alloc, a, half, end)?;
+    eliminate_strip::<K>(alloc, &mut left, pivots, first, half)?;
+    carry::<K>(alloc, &mut right, &left, pivots, first, half)?;
+    eliminate_strip::<K>(alloc, &mut right, pivots, first + half, n - half)?;
+    exchange_rows(&mut left, pivots, first + half, n - half);
+    put_columns(a, 0, half, &left);
+    put_columns(a, half, end, &right);
     Ok(())
 }

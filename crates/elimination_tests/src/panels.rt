@@ -123,6 +123,60 @@ fn strip_eliminated(rt: &impl Abort, alloc: Global, mut matrix: Mat, n: u32) -> 
     }
 }
 
+/// The first `n` columns of a matrix are eliminated one after another.
+fn columns_eliminated(rt: &impl Abort, alloc: Global, mut matrix: Mat, n: u32) -> Left {
+    let mut pivots = Vec::new(alloc);
+    for j in 0..n {
+        check_room(rt, &matrix, j + 1, j + 1);
+        check_words::<F65537>(rt, &matrix);
+        eliminate_strip_column::<F65537>(alloc, &mut matrix, &mut pivots, 0, j).expect(
+            rt,
+            "memory for a column",
+        );
+    }
+    Left {
+        matrix,
+        pivots,
+        info: 0,
+    }
+}
+
+/// A matrix of mixed words, of which the words of the columns 5 and 20 are zeros, and those at the
+/// head of the first.
+fn mixed(rt: &impl Abort, alloc: Global, rows: u32, cols: u32) -> Mat {
+    let mut m = Mat::zeros(alloc, rows, cols).expect(rt, "memory for a matrix");
+    let place = m.words_mut();
+    let mut word: u32 = 1;
+    for (k, x) in place.iter_mut().enumerate() {
+        word = word.wrapping_mul(25173).wrapping_add(13849) % 65536;
+        let column = k / (rows as usize).max(1);
+        if k > 2 && column != 5 && column != 20 {
+            *x = word;
+        }
+    }
+    m
+}
+
+/// Stops where a strip that is eliminated by halves is another than one by columns.
+fn check_halves(rt: &impl Abort, alloc: Global, row: usize, rows: u32, cols: u32, n: u32) {
+    let strip = mixed(rt, alloc, rows, cols);
+    let again = mixed(rt, alloc, rows, cols);
+    let left = strip_eliminated(rt, alloc, strip, n);
+    let want = columns_eliminated(rt, alloc, again, n);
+    check_left(rt, row, &left, want.matrix.words(), &want.pivots, 0);
+}
+
+/// Strips of more columns than are eliminated one after another, with as many rows, with more and
+/// with fewer, and with columns right of those that are eliminated.
+#[test]
+fn halves_are_columns(rt: HostRuntime) {
+    let alloc = rt.alloc();
+    check_halves(&rt, alloc, 0, 40, 40, 40);
+    check_halves(&rt, alloc, 1, 53, 41, 41);
+    check_halves(&rt, alloc, 2, 37, 49, 37);
+    check_halves(&rt, alloc, 3, 45, 45, 17);
+}
+
 /// Stops where two matrices have not as many rows.
 fn check_height(rt: &impl Abort, m: &Mat, other: &Mat)
     ensures { m.now.rows ≡ other.now.rows }

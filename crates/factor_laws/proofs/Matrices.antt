@@ -7,12 +7,12 @@ use Rattle.run_data.specs.Matrix.{Matrix, cols, entry, IsShaped, AreWords, tabul
 use Rattle.run_data.proofs.Matrices.{rows-tabulate, cols-tabulate, entry-tabulate, IsShaped-tabulate, tabulate_is, tabulate-same}
 use Rattle.run_data.proofs.PartLaws.{AreWords-tabulate}
 use Rattle.local_blas.specs.Kernels.{solution}
+use Rattle.local_blas.proofs.SolutionLaws.{solution-same}
+use Rattle.local_blas.proofs.UpperSolutions.{upper_solution-same}
 use Rattle.serial_model.specs.Elimination.{Eliminated, elimination, elimination_of, eliminated_matrix, least_zero, diagonal, exchanged}
 use Rattle.serial_model.specs.Solves.{product_of, solved_with_factors, factors_solved, first_zero}
 use Rattle.elimination.specs.Whole.{with_rows_exchanged}
 use Rattle.elimination.proofs.Info.{info-is_test, least_zero-same}
-use Rattle.elimination.proofs.Reductions.{solution-same}
-use Rattle.elimination.proofs.UpperLaws.{upper_solution-same}
 use Rattle.elimination.proofs.Words.{ready-matrix}
 use Rattle.serial_model.specs.Transposes.{identity_word, identity_matrix, inverted}
 use Rattle.factor_laws.specs.Triangles.{Inverts, triangle_word, lower_factor, upper_factor}

@@ -10,9 +10,9 @@ use Rattle.serial_model.specs.Elimination.{elimination_of, eliminated_matrix, le
 use Rattle.serial_model.specs.Solves.{product_of, solved_column, triangle_solved, first_zero}
 use Rattle.elimination.proofs.Info.{least_zero-same}
 use Rattle.elimination.proofs.Words.{ready-matrix}
-use Rattle.elimination.proofs.Reductions.{solution-same}
-use Rattle.elimination.proofs.UpperLaws.{upper_solution-same}
 use Rattle.local_blas.specs.Kernels.{solution}
+use Rattle.local_blas.proofs.SolutionLaws.{solution-same}
+use Rattle.local_blas.proofs.UpperSolutions.{upper_solution-same}
 use Rattle.serial_model.specs.Transposes.{transposed, came_back_from, left_solved, side_solved, trans_solved, transposed_solved, flipped}
 use Rattle.factor_laws.specs.Triangles.{Inverts, triangle_word, triangle_of, transposed_if, multiplied}
 use Rattle.factor_laws.proofs.Triangles.{Divides, divides-one, divides-word}

@@ -9,7 +9,7 @@ use Rattle.run_data.specs.Parts.{IsWithin, patched, with_part, part_entry, whole
 use Rattle.run_data.proofs.Matrices.{tabulate-same}
 use Rattle.run_data.proofs.Fills.{fill_reads_before}
 use Rattle.local_blas.specs.Kernels.{with_scaled, multiplier, eliminated_word, with_eliminated}
-use Rattle.local_blas.proofs.Columns.{column_part, with_columns, columns_start, columns_left, columns_go_on}
+use Rattle.run_data.proofs.Columns.{column_part, with_columns, columns_start, columns_left, columns_go_on}
 use Rattle.local_blas.proofs.Steps.{loses_product}
 
 -- the rows from `from` on and the columns from j on

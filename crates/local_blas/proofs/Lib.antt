@@ -1,11 +1,10 @@
-pub mod ColumnWords
+pub mod ColumnSums
 pub mod Steps
 pub mod Products
 pub mod Solutions
 pub mod SolutionLaws
 pub mod UpperSolutions
 pub mod Eliminations
-pub mod Columns
-pub mod ColumnSolutions
+pub mod Halves
 pub mod Swaps
 mod Examples

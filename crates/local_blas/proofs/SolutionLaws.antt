@@ -1,12 +1,12 @@
 -- Laws of solutions by substitution: they are the only ones, keep weighted sums, and go by blocks.
-use Rattle.std.proofs.Common.{◌≡◌, ℕ, zero, suc, ◌+◌, ◌-◌, ◌*◌, ◌%◌, ◌<◌, Bool, true, false, if◌then◌else◌, sym, ◌∙◌, ap, arith}
+use Rattle.std.proofs.Common.{◌≡◌, ℕ, zero, suc, ◌+◌, ◌-◌, ◌*◌, ◌%◌, ◌<◌, ◌≤◌, Bool, true, false, if◌then◌else◌, sym, ◌∙◌, ap, arith}
 use Rattle.std.proofs.Math.Nat.{mod-mod}
 use Rattle.std.proofs.lemmas.Nat.{mul-mod_second, mul-mod_first}
 use Rattle.field_core.specs.Sums.{sum_to}
 use Rattle.field_core.proofs.Modular.{residues, same_sum, same_scaled}
 use Rattle.field_core.proofs.Sums.{sum_to-same, sum_to-same_mod, sum_to-split, sum_to-scale}
 use Rattle.field_core.proofs.WeightedSums.{weighted-sum, weighted-product}
-use Rattle.local_blas.specs.Kernels.{divided, solved_word, solution}
+use Rattle.local_blas.specs.Kernels.{divided, solution}
 use Rattle.local_blas.proofs.Solutions.{solution-equation}
 
 -- what a division by the diagonal multiplies by
@@ -75,17 +75,13 @@ solution-block p inverse unit l b m n =
     regroup : (p b c s t : ℕ) → (b + c * (s + t)) % p ≡ ((b + c * s) % p + c * t) % p
     regroup p b c s t = ap (λ n. n % p) (let e : b + c * (s + t) ≡ (b + c * s) + c * t = omega arith in e) ∙ sym (let e : ((b + c * s) % p + c * t) % p ≡ ((b + c * s) + c * t) % p = simp residues in e)
 
--- equal right sides have equal solutions
-pub solution-same : (p : ℕ) (inverse : ℕ → ℕ) (unit : Bool) (l : ℕ → ℕ → ℕ) (b c : ℕ → ℕ) (n : ℕ) → ((i : ℕ) → i < n → b i ≡ c i) → (i : ℕ) → i < n → solution p inverse unit l b i ≡ solution p inverse unit l c i
-solution-same p inverse unit l b c n same =
-    solution_is p inverse unit l c (solution p inverse unit l b) n
-    (λ i h. solution-equation p inverse unit l b i
-    ∙ ap (λ x. divided p inverse unit (l i i) ((x + (p - 1) * sum_to i (λ k. l i k * solution p inverse unit l b k)) % p)) (same i h))
-
--- the next word, once the words above it are found
-pub solution-next : (p : ℕ) (inverse : ℕ → ℕ) (unit : Bool) (l : ℕ → ℕ → ℕ) (b : ℕ → ℕ) (i x : ℕ) (v : ℕ → ℕ) → x ≡ b i → ((k : ℕ) → k < i → v k ≡ solution p inverse unit l b k) → solved_word p inverse unit (l i i) x (sum_to i (λ k. l i k * v k)) ≡ solution p inverse unit l b i
-solution-next p inverse unit l b i x v e found =
-    let y : ℕ → ℕ = solution p inverse unit l b in
-    ap (λ n. solved_word p inverse unit (l i i) n (sum_to i (λ k. l i k * v k))) e
-    ∙ ap (solved_word p inverse unit (l i i) (b i)) (sum_to-same i (λ k. l i k * v k) (λ k. l i k * y k) (λ k h. ap (λ n. l i k * n) (found k h)))
-    ∙ sym (solution-equation p inverse unit l b i)
+-- the words of a solution up to row i read the triangle and the right side up to that row
+pub solution-same : (p : ℕ) (inverse : ℕ → ℕ) (unit : Bool) (l l' : ℕ → ℕ → ℕ) (b b' : ℕ → ℕ) (i : ℕ) → ((r k : ℕ) → r ≤ i → k ≤ r → l r k ≡ l' r k) → ((r : ℕ) → r ≤ i → b r ≡ b' r) → solution p inverse unit l b i ≡ solution p inverse unit l' b' i
+solution-same p inverse unit l l' b b' i el eb =
+    solution_is p inverse unit l' b' (solution p inverse unit l b) (suc i)
+    (λ r hr. solution-equation p inverse unit l b r
+    ∙ ap (λ d. divided p inverse unit d ((b r + (p - 1) * sum_to r (λ k. l r k * solution p inverse unit l b k)) % p)) (el r r (omega arith) (omega arith))
+    ∙ ap (λ y. divided p inverse unit (l' r r) ((y + (p - 1) * sum_to r (λ k. l r k * solution p inverse unit l b k)) % p)) (eb r (omega arith))
+    ∙ ap (λ s. divided p inverse unit (l' r r) ((b' r + (p - 1) * s) % p))
+    (sum_to-same r (λ k. l r k * solution p inverse unit l b k) (λ k. l' r k * solution p inverse unit l b k) (λ k hk. ap (λ y. y * solution p inverse unit l b k) (el r k (omega arith) (omega arith)))))
+    i (omega arith)

@@ -3,9 +3,9 @@ use Rattle.std.proofs.Common.{◌≡◌, ℕ, zero, suc, ◌+◌, ◌-◌, ◌*�
 use Rattle.field_core.specs.Sums.{sum_to}
 use Rattle.field_core.proofs.Modular.{residues}
 use Rattle.field_core.proofs.Sums.{sum_to-same, sum_to-split, sum_to-reversed}
-use Rattle.local_blas.specs.Kernels.{divided, solved_word, solution, from_last, upper_solution}
+use Rattle.local_blas.specs.Kernels.{divided, solution, from_last, upper_solution}
 use Rattle.local_blas.proofs.Solutions.{solution-equation, solution-below}
-use Rattle.local_blas.proofs.SolutionLaws.{solution-weighted}
+use Rattle.local_blas.proofs.SolutionLaws.{solution-weighted, solution-same}
 
 -- what a word of the solution is, by the later ones
 pub upper_solution-equation : (p : ℕ) (inverse : ℕ → ℕ) (unit : Bool) (n : ℕ) (u : ℕ → ℕ → ℕ) (b : ℕ → ℕ) (i : ℕ) → i < n → upper_solution p inverse unit n u b i ≡ divided p inverse unit (u i i) ((b i + (p - 1) * sum_to (n - 1 - i) (λ k. u i (i + 1 + k) * upper_solution p inverse unit n u b (i + 1 + k))) % p)
@@ -81,19 +81,9 @@ upper_solution-first_block p inverse unit m n u b =
     regroup : (p b c s t : ℕ) → (b + c * (s + t)) % p ≡ ((b + c * t) % p + c * s) % p
     regroup p b c s t = ap (λ n. n % p) (let e : b + c * (s + t) ≡ (b + c * t) + c * s = omega arith in e) ∙ sym (let e : ((b + c * t) % p + c * s) % p ≡ ((b + c * t) + c * s) % p = simp residues in e)
 
--- equal right sides have equal solutions
-pub upper_solution-same : (p : ℕ) (inverse : ℕ → ℕ) (unit : Bool) (n : ℕ) (u : ℕ → ℕ → ℕ) (b c : ℕ → ℕ) → ((i : ℕ) → i < n → b i ≡ c i) → (i : ℕ) → i < n → upper_solution p inverse unit n u b i ≡ upper_solution p inverse unit n u c i
-upper_solution-same p inverse unit n u b c same =
-    upper_solution_is p inverse unit n u c (upper_solution p inverse unit n u b)
-    (λ i h. upper_solution-equation p inverse unit n u b i h
-    ∙ ap (λ x. divided p inverse unit (u i i) ((x + (p - 1) * sum_to (n - 1 - i) (λ k. u i (i + 1 + k) * upper_solution p inverse unit n u b (i + 1 + k))) % p)) (same i h))
-
--- the next word, once the words below it are found
-pub upper_solution-next : (p : ℕ) (inverse : ℕ → ℕ) (unit : Bool) (n : ℕ) (u : ℕ → ℕ → ℕ) (b : ℕ → ℕ) (i x : ℕ) (v : ℕ → ℕ) → i < n → x ≡ b i → ((k : ℕ) → i < k → k < n → v k ≡ upper_solution p inverse unit n u b k) → solved_word p inverse unit (u i i) x (sum_to (n - 1 - i) (λ k. u i (i + 1 + k) * v (i + 1 + k))) ≡ upper_solution p inverse unit n u b i
-upper_solution-next p inverse unit n u b i x v h e found =
-    let y : ℕ → ℕ = upper_solution p inverse unit n u b in
-    ap (λ m. solved_word p inverse unit (u i i) m (sum_to (n - 1 - i) (λ k. u i (i + 1 + k) * v (i + 1 + k)))) e
-    ∙ ap (solved_word p inverse unit (u i i) (b i))
-    (sum_to-same (n - 1 - i) (λ k. u i (i + 1 + k) * v (i + 1 + k)) (λ k. u i (i + 1 + k) * y (i + 1 + k))
-    (λ k hk. ap (λ m. u i (i + 1 + k) * m) (found (i + 1 + k) (omega arith) (omega arith))))
-    ∙ sym (upper_solution-equation p inverse unit n u b i h)
+-- the words of a solution read the n rows and columns of the triangle and the n words of the right side
+pub upper_solution-same : (p : ℕ) (inverse : ℕ → ℕ) (unit : Bool) (n : ℕ) (u u' : ℕ → ℕ → ℕ) (b b' : ℕ → ℕ) → ((r k : ℕ) → r < n → k < n → u r k ≡ u' r k) → ((i : ℕ) → i < n → b i ≡ b' i) → (i : ℕ) → i < n → upper_solution p inverse unit n u b i ≡ upper_solution p inverse unit n u' b' i
+upper_solution-same p inverse unit n u u' b b' triangle same i h =
+    solution-same p inverse unit (λ r k. u (from_last n r) (from_last n k)) (λ r k. u' (from_last n r) (from_last n k)) (λ k. b (from_last n k)) (λ k. b' (from_last n k)) (from_last n i)
+    (λ r k _ _. triangle (from_last n r) (from_last n k) (let e : n - 1 - r < n = omega arith in e) (let e : n - 1 - k < n = omega arith in e))
+    (λ r hr. same (from_last n r) (let e : n - 1 - r < n = omega arith in e))

@@ -46,10 +46,6 @@ with_product p dst at a left lp right rp = with_words_of dst at (λ x i j. (x + 
 abbrev pub divided : ℕ → (ℕ → ℕ) → Bool → ℕ → ℕ → ℕ
 divided p inverse unit d x = if unit then x else (x * inverse d) % p
 
--- x less the sum s of what is known, divided by d
-abbrev pub solved_word : ℕ → (ℕ → ℕ) → Bool → ℕ → ℕ → ℕ → ℕ
-solved_word p inverse unit d x s = divided p inverse unit d ((x + (p - 1) * s) % p)
-
 -- the first n words of the solution of l * x = b for a lower triangle l: each is that of b less what the earlier ones give, divided by the diagonal
 unfoldable pub substituted : ℕ → (ℕ → ℕ) → Bool → (ℕ → ℕ → ℕ) → (ℕ → ℕ) → ℕ → ℕ → ℕ
 substituted p inverse unit l b zero k = 0

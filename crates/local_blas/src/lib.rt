@@ -6,6 +6,7 @@
 //! words are below the modulus and whose shapes agree.
 #![tactic(auto)]
 
+mod cuts;
 mod product;
 mod rows;
 mod scaling;

@@ -1,46 +1,14 @@
 //! The product of two parts.
 
-ghost use Rattle.std.specs.Prelude.{◌≡◌, ◌+◌, ◌*◌, ◌%◌, ◌<◌, ◌≤◌};
-ghost use Rattle.field_core.specs.Sums.{sum_to};
-ghost use Rattle.run_data.specs.Matrix.{Matrix, cols, entry};
+ghost use Rattle.std.specs.Prelude.{◌≡◌, ◌+◌, ◌<◌};
+ghost use Rattle.run_data.specs.Matrix.{Matrix};
 ghost use Rattle.run_data.specs.Parts.{IsWithin};
 ghost use Rattle.local_blas.specs.Kernels.{AreWords, ShapesMultiply, with_product};
 
-use crate::words::{add_product, column_of, column_words};
+use crate::words::column_words;
 use blas_lanes::add_products;
 use field_core::Field;
-use run_data::{Mat, Part};
-
-/// The sum of `count` products: of the words of a row of `left`, from column `c0` on, and those of
-/// a column of `right`, from row `r0` on (BLAS's xDOT).
-pub(crate) fn inner_product<K: Field>(
-    left: &Mat,
-    row: u32,
-    c0: u32,
-    right: &Mat,
-    r0: u32,
-    column: u32,
-    count: u32,
-) -> u32
-    requires left_row { row < left.now.rows }
-    requires left_columns { c0 + count ≤ cols left.now }
-    requires right_rows { r0 + count ≤ right.now.rows }
-    requires right_column { column < cols right.now }
-    requires left_words { AreWords K.MODULUS left.now }
-    requires right_words { AreWords K.MODULUS right.now }
-    ensures below { result < K.MODULUS }
-    ensures sum { result ≡ sum_to count (λ k. entry left.now row (c0 + k) * entry right.now (r0 + k) column) % K.MODULUS }
-{
-    let _columns = left.cols();
-    let _rows = right.rows();
-    let mut sum = 0;
-    for k in 0..count {
-        let x = left.get(row, c0 + k);
-        let y = right.get(r0 + k, column);
-        sum = add_product::<K>(sum, x, y);
-    }
-    sum
-}
+use run_data::{Mat, Part, column_of};
 
 /// Adds `a` times the product of the part `lp` of `left` and a part of one column to a part of one
 /// column (as BLAS's xGEMV with beta 1).

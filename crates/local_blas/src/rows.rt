@@ -7,10 +7,9 @@ ghost use Rattle.run_data.specs.Parts.{IsWithin, whole_part, with_part};
 ghost use Rattle.local_blas.specs.Kernels.{AreWords, with_eliminated, with_rows_swapped};
 
 use crate::scaling::scale_column;
-use crate::words::column_of;
 use blas_lanes::axpy;
 use field_core::Field;
-use run_data::{Mat, Part};
+use run_data::{Mat, Part, column_of};
 
 /// The first row from `from` on whose word in column `j` is not 0, or `None` where there is none.
 ///

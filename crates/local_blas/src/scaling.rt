@@ -5,9 +5,9 @@ ghost use Rattle.run_data.specs.Matrix.{Matrix};
 ghost use Rattle.run_data.specs.Parts.{IsWithin, SameShape};
 ghost use Rattle.local_blas.specs.Kernels.{AreWords, with_scaled, with_added, everywhere};
 
-use crate::words::{column_of, column_words};
+use crate::words::column_words;
 use field_core::Field;
-use run_data::{Mat, Part};
+use run_data::{Mat, Part, column_of};
 
 /// Multiplies each word of a part of one column by `a` (as BLAS's xSCAL).
 pub(crate) fn scale_column<K: Field>(dst: &mut Mat, at: Part, a: u32)

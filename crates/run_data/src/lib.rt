@@ -13,6 +13,6 @@ pub use command::Command;
 pub use files::Files;
 pub use flips::Flip;
 pub use index_list::IndexList;
-pub use matrix::{Mat, Part, put_part};
+pub use matrix::{Mat, Part, column_of, put_part};
 pub use script::Script;
 pub use word::Word;

@@ -134,11 +134,13 @@ impl Mat {
         let rows = at.r1 - at.r0;
         let cols = at.c1 - at.c0;
         let mut result = Mat::zeros(alloc, rows, cols)?;
-        for j in 0..cols {
-            for i in 0..rows {
-                result.set(i, j, self.get(at.r0 + i, at.c0 + j));
-            }
-        }
+        let all = Part {
+            r0: 0,
+            r1: rows,
+            c0: 0,
+            c1: cols,
+        };
+        put_part(&mut result, all, self, at);
         Ok(result)
     }
 }
@@ -148,6 +150,34 @@ fn are_below(words: &[u32], limit: u32) -> bool
     ensures { IsTrue result ↔ EachIndex words.now (λ k. slice_index words.now k < limit) }
 {
     words.iter().all(|word| *word < limit)
+}
+
+/// Column `j` of a part.
+pub fn column_of(at: Part, j: u32) -> Part
+    requires { j < at.c1 }
+    ensures { result ≡ record { r0 = at.r0; r1 = at.r1; c0 = j; c1 = j + 1 } }
+{
+    Part {
+        r0: at.r0,
+        r1: at.r1,
+        c0: j,
+        c1: j + 1,
+    }
+}
+
+/// Copies a part of one column over another of as many rows.
+fn put_column(dst: &mut Mat, at: Part, src: &Mat, sp: Part)
+    requires dst_part { IsWithin at dst.old }
+    requires src_part { IsWithin sp src.now }
+    requires shape { SameShape at sp }
+    requires column { at.c1 ≡ at.c0 + 1 }
+    ensures { dst.new ≡ with_copy dst.old at src.now sp }
+{
+    let first = sp.c0 as usize * src.rows() as usize;
+    let words = &src.words()[first + sp.r0 as usize..first + sp.r1 as usize];
+    let start = at.c0 as usize * dst.rows() as usize;
+    let place = dst.words_mut();
+    place[start + at.r0 as usize..start + at.r1 as usize].copy_from_slice(words);
 }
 
 /// Copies the part `sp` of `src` over the part `at` of `dst`, which has the same shape (as
@@ -161,8 +191,7 @@ pub fn put_part(dst: &mut Mat, at: Part, src: &Mat, sp: Part)
 {
     let _shaped = dst.rows();
     for j in at.c0..at.c1 {
-        for i in at.r0..at.r1 {
-            dst.set(i, j, src.get(sp.r0 + (i - at.r0), sp.c0 + (j - at.c0)));
-        }
+        let column = column_of(sp, sp.c0 + (j - at.c0));
+        put_column(dst, column_of(at, j), src, column);
     }
 }

@@ -3,12 +3,12 @@ use Rattle.std.proofs.Common.{◌≡◌, ◌≢◌, ℕ, suc, ◌+◌, ◌-◌, 
 use Rattle.run_data.specs.Matrix.{Matrix, cols, entry, IsShaped, tabulate}
 use Rattle.run_data.proofs.Matrices.{tabulate_is, tabulate-same, rows-tabulate, cols-tabulate, entry-tabulate}
 use Rattle.local_blas.specs.Kernels.{swapped, solution, upper_solution, with_rows_swapped}
+use Rattle.local_blas.proofs.SolutionLaws.{solution-same}
+use Rattle.local_blas.proofs.UpperSolutions.{upper_solution-same}
 use Rattle.local_blas.proofs.Swaps.{swapped-below}
 use Rattle.serial_model.specs.Elimination.{pivot_row, least_zero, diagonal}
 use Rattle.serial_model.specs.Solves.{first_zero, solved_column}
 use Rattle.elimination.specs.Whole.{AreRows}
-use Rattle.elimination.proofs.Reductions.{solution-same}
-use Rattle.elimination.proofs.UpperLaws.{upper_solution-same}
 use Rattle.serial_model.specs.Transposes.{transposed, came_back_from, exchanged_back, flipped, transposed_solved, trans_solved}
 use Rattle.factor_laws.proofs.Exchanges.{AreBelow, came_back_from-below}
 use Rattle.factor_laws.proofs.Unique.{exchanged_back-next}

@@ -11,10 +11,9 @@ use Rattle.run_data.proofs.Matrices.{tabulate-same, rows-tabulate, cols-tabulate
 use Rattle.run_data.proofs.PartLaws.{rows-with_part, cols-with_part, entry-with_part_inside, AreWords-with_part, AreWords-tabulate}
 use Rattle.local_blas.specs.Kernels.{ShapesMultiply, ShapesSolve, solution, upper_solution, product_word, with_scaled, with_product, with_solved_lower, with_solved_upper}
 use Rattle.local_blas.proofs.Solutions.{solution-below}
-use Rattle.local_blas.proofs.UpperSolutions.{upper_solution-below}
+use Rattle.local_blas.proofs.SolutionLaws.{solution-same}
+use Rattle.local_blas.proofs.UpperSolutions.{upper_solution-below, upper_solution-same}
 use Rattle.elimination.specs.Whole.{with_rows_exchanged}
-use Rattle.elimination.proofs.Reductions.{solution-same}
-use Rattle.elimination.proofs.UpperLaws.{upper_solution-same}
 use Rattle.serial_model.specs.Elimination.{exchanged, least_zero, diagonal}
 use Rattle.serial_model.specs.Solves.{first_zero, product_of, solved_column, solved_unless, solved_with_factors, triangle_solved, factors_solved}
 use Rattle.serial_machine.specs.Solved.{with_columns_solved}

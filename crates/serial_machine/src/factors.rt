@@ -18,5 +18,5 @@ pub fn factor<K: Field>(alloc: Global, a: &mut Mat) -> Result<Found, AllocError>
     ensures rows { IfOk result (λ f. f.pivots.items ≡ (elimination_of K.MODULUS (inverse K.MODULUS) a.old).pivots) }
     ensures info { IfOk result (λ f. f.info ≡ (elimination_of K.MODULUS (inverse K.MODULUS) a.old).info) }
 {
-    eliminate_by_panels::<K>(alloc, a, 32)
+    eliminate_by_panels::<K>(alloc, a, 256)
 }

@@ -1,7 +1,7 @@
 use Rattle.std.proofs.Common.{◌+◌, ◌-◌, ◌*◌, ◌%◌, ap, arith}
 use Rattle.std.proofs.Math.Nat.{mod-lt}
 use Rattle.run_data.specs.Matrix.{entry}
-use Rattle.local_blas.proofs.Columns.{columns_start, columns_left, columns_go_on, columns_end, AreWords-columns}
+use Rattle.run_data.proofs.Columns.{columns_start, columns_left, columns_go_on, columns_end, AreWords-columns}
 use Rattle.local_blas.proofs.Products.{product_word-at}
 use Rattle.local_blas.proofs.product.mul_add.Goals as goal
 

@@ -1,7 +1,8 @@
 use Rattle.std.proofs.Common.{length, ◌≡◌, ◌≤◌, ◌+◌, ◌-◌, ◌*◌, ◌%◌, ◌∙◌, drop, refl, arith}
 use Rattle.run_data.specs.Matrix.{cols, entry}
 use Rattle.local_blas.specs.Kernels.{product_word}
-use Rattle.local_blas.proofs.ColumnWords.{entries_small, part_small, part_long, column_in, column_read, column_written, gathered, inside_left, product_of_words, take_le}
+use Rattle.run_data.proofs.ColumnWords.{entries_small, part_small, part_long, column_in, column_read, column_written, take_le}
+use Rattle.local_blas.proofs.ColumnSums.{gathered, inside_left, product_of_words}
 use Rattle.local_blas.proofs.product.mul_add_column.Goals as goal
 
 pub add_products-requires-clause-y_words : goal.add_products-requires-clause-y_words

@@ -1,7 +1,7 @@
 use Rattle.std.proofs.Common.{◌∙◌, sym, arith}
 use Rattle.field_core.specs.Residue.{inverse}
 use Rattle.run_data.specs.Parts.{part_entry, whole_part}
-use Rattle.local_blas.proofs.Columns.{columns_end, filled_within, placed_within, AreWords-columns}
+use Rattle.run_data.proofs.Columns.{columns_end, filled_within, placed_within, AreWords-columns}
 use Rattle.local_blas.proofs.Eliminations.{first_row, eliminated_word-below, eliminate_starts, eliminate_goes_on, with_eliminated_is}
 use Rattle.local_blas.proofs.rows.eliminate.Goals as goal
 

@@ -2,7 +2,7 @@ use Rattle.std.proofs.Common.{◌≡◌}
 use Rattle.field_core.specs.Residue.{inverse}
 use Rattle.run_data.specs.Parts.{part_entry, whole_part}
 use Rattle.local_blas.specs.Kernels.{eliminated_word}
-use Rattle.local_blas.proofs.Columns.{with_columns}
+use Rattle.run_data.proofs.Columns.{with_columns}
 use Rattle.local_blas.proofs.Eliminations.{part_below}
 use Rattle.local_blas.proofs.rows.eliminate.Given as goal
 

@@ -1,6 +1,7 @@
 use Rattle.std.proofs.Common.{length, ◌≡◌, ◌+◌, ◌-◌, ◌*◌, ◌%◌, ◌∙◌, refl, arith}
 use Rattle.run_data.specs.Matrix.{entry}
-use Rattle.local_blas.proofs.ColumnWords.{entries_small, part_small, taken_small, front_small, back_small, behind_long, column_in, column_read_before, column_read_behind, column_written_behind, added_from}
+use Rattle.run_data.proofs.ColumnWords.{entries_small, part_small, taken_small, front_small, back_small, behind_long, column_in, column_read_before, column_read_behind, column_written_behind}
+use Rattle.local_blas.proofs.ColumnSums.{added_from}
 use Rattle.local_blas.proofs.rows.eliminate_column.Goals as goal
 
 pub axpy-requires-clause-y_words : goal.axpy-requires-clause-y_words

@@ -1,7 +1,7 @@
 use Rattle.std.proofs.Common.{◌≡◌, ◌+◌, ◌-◌, ◌*◌, ◌%◌}
 use Rattle.run_data.specs.Matrix.{entry}
 use Rattle.run_data.specs.Parts.{part_entry}
-use Rattle.local_blas.proofs.Columns.{with_columns}
+use Rattle.run_data.proofs.Columns.{with_columns}
 use Rattle.local_blas.proofs.scaling.add_scaled.Given as goal
 
 abbrev pub invariant-loop-j : goal.invariant-loop-j

@@ -1,7 +1,8 @@
 use Rattle.std.proofs.Common.{length, ◌≡◌, ◌≤◌, ◌+◌, ◌-◌, ◌*◌, ◌%◌, ◌∙◌, ap, refl, arith}
 use Rattle.run_data.specs.Matrix.{entry}
 use Rattle.run_data.specs.Parts.{part_entry}
-use Rattle.local_blas.proofs.ColumnWords.{entries_small, part_small, part_long, column_in, column_read, column_written, added_from, part_word_at}
+use Rattle.run_data.proofs.ColumnWords.{entries_small, part_small, part_long, column_in, column_read, column_written}
+use Rattle.local_blas.proofs.ColumnSums.{added_from, part_word_at}
 use Rattle.local_blas.proofs.scaling.add_scaled_column.Goals as goal
 
 pub axpy-requires-clause-y_words : goal.axpy-requires-clause-y_words

@@ -1,6 +1,6 @@
 use Rattle.std.proofs.Common.{◌*◌, ◌%◌, ap, arith}
 use Rattle.std.proofs.Math.Nat.{mod-lt}
-use Rattle.local_blas.proofs.Columns.{columns_start, columns_left, columns_go_on, columns_end, AreWords-columns}
+use Rattle.run_data.proofs.Columns.{columns_start, columns_left, columns_go_on, columns_end, AreWords-columns}
 use Rattle.local_blas.proofs.scaling.scale.Goals as goal
 
 pub loop-j-init : goal.loop-j-init

@@ -1,6 +1,6 @@
 use Rattle.std.proofs.Common.{◌≡◌, ◌*◌, ◌%◌}
 use Rattle.run_data.specs.Matrix.{entry}
-use Rattle.local_blas.proofs.Columns.{with_columns}
+use Rattle.run_data.proofs.Columns.{with_columns}
 use Rattle.local_blas.proofs.scaling.scale.Given as goal
 
 abbrev pub invariant-loop-j : goal.invariant-loop-j

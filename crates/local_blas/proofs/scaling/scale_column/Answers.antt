@@ -1,6 +1,7 @@
 use Rattle.std.proofs.Common.{length, ◌≡◌, ◌≤◌, ◌+◌, ◌-◌, ◌*◌, ◌%◌, ◌∙◌, refl, arith}
 use Rattle.run_data.specs.Matrix.{entry}
-use Rattle.local_blas.proofs.ColumnWords.{entries_small, part_small, part_long, column_in, column_read, column_written, scaled_from}
+use Rattle.run_data.proofs.ColumnWords.{entries_small, part_small, part_long, column_in, column_read, column_written}
+use Rattle.local_blas.proofs.ColumnSums.{scaled_from}
 use Rattle.local_blas.proofs.scaling.scale_column.Goals as goal
 
 pub scale-requires-clause-words : goal.scale-requires-clause-words

@@ -1,4 +1,4 @@
-use Rattle.local_blas.proofs.ColumnWords.{part_small, words_small}
+use Rattle.run_data.proofs.ColumnWords.{part_small, words_small}
 use Rattle.local_blas.proofs.words.column_words.Goals as goal
 
 pub returns-clause-small : goal.returns-clause-small
