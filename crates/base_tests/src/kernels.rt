@@ -243,6 +243,48 @@ fn check_solves(rt: &impl Abort, alloc: Global, rows: u32) {
     }
 }
 
+/// A word of a product, by a plain loop over whole numbers.
+fn product_at(rt: &impl Abort, left: &Mat, right: &Mat, row: u32, column: u32) -> u64 {
+    let mut sum: u64 = 0;
+    for k in 0..left.cols() {
+        let product = word(rt, left, row, k).wrapping_mul(word(rt, right, k, column));
+        sum = sum.wrapping_add(product);
+    }
+    sum
+}
+
+/// Stops where a column isn't what it was and three times the product's column.
+fn check_gained(rt: &impl Abort, left: &Mat, right: &Mat, old: &Mat, new: &Mat, column: u32) {
+    for row in 0..new.rows() {
+        let gain = product_at(rt, left, right, row, column).wrapping_mul(3);
+        let want = word(rt, old, row, column).wrapping_add(gain) % 65537;
+        assert!(rt; word(rt, new, row, column) == want);
+    }
+}
+
+/// Stops where a product of these sizes isn't the plain one.
+fn check_product(rt: &impl Abort, alloc: Global, rows: u32, inner: u32, cols: u32) {
+    let left = mixed(rt, alloc, rows, inner);
+    let right = mixed(rt, alloc, inner, cols);
+    let old = mixed(rt, alloc, rows, cols);
+    let mut new = mixed(rt, alloc, rows, cols);
+    multiply::<F65537>(rt, 1, &mut new, 3, &left, &right);
+    for column in 0..cols {
+        check_gained(rt, &left, &right, &old, &new, column);
+    }
+}
+
+/// Fewer and more rows than there are lanes, and more than 1,024 rows and terms.
+#[test]
+fn products_beside_plain_ones(rt: HostRuntime) {
+    let alloc = rt.alloc();
+    for rows in 0..41 {
+        check_product(&rt, alloc, rows, 5, 2);
+    }
+    check_product(&rt, alloc, 17, 1045, 1);
+    check_product(&rt, alloc, 1045, 3, 1);
+}
+
 /// Triangles of fewer and of more rows than there are lanes, cut at sixteen rows and elsewhere.
 #[test]
 fn solves_by_halves(rt: HostRuntime) {
