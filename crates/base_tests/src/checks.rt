@@ -1,5 +1,7 @@
-//! Values that end a test where memory runs out, and one comparison for each type.
-use run_data::Mat;
+//! Values that end a test where memory runs out, one comparison for each type, and parts that lie in their matrix.
+ghost use Rattle.run_data.specs.Parts.{IsWithin};
+
+use run_data::{Mat, Part, put_part};
 use std::alloc::Global;
 use std::process::Abort;
 
@@ -40,4 +42,20 @@ pub(crate) fn check_number(rt: &impl Abort, found: Option<u32>, want: Option<u32
 /// Stops where bytes are others.
 pub(crate) fn check_bytes(rt: &impl Abort, found: &[u8], want: &[u8]) {
     assert_eq!(rt; found, want);
+}
+
+/// Stops where the part does not lie in the matrix.
+pub(crate) fn check_within(rt: &impl Abort, at: Part, m: &Mat)
+    ensures { IsWithin at m.now }
+{
+    assert!(rt; at.r0 <= at.r1 && at.r1 <= m.rows());
+    assert!(rt; at.c0 <= at.c1 && at.c1 <= m.cols());
+}
+
+/// Copies a part of a matrix over one of another, of the same shape.
+pub(crate) fn put(rt: &impl Abort, dst: &mut Mat, at: Part, src: &Mat, sp: Part) {
+    check_within(rt, at, dst);
+    check_within(rt, sp, src);
+    assert!(rt; at.r1 - at.r0 == sp.r1 - sp.r0 && at.c1 - at.c0 == sp.c1 - sp.c0);
+    put_part(dst, at, src, sp);
 }

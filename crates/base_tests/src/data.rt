@@ -1,34 +1,16 @@
 //! Plain data: matrices and parts, words, lists of numbers, commands, scripts and files.
-ghost use Rattle.std.specs.Prelude.{◌≡◌};
-ghost use Rattle.run_data.specs.Parts.{IsWithin};
-
 use crate::checks::{
-    check_bytes, check_is, check_number, check_numbers, check_shape, matrix, zeros,
+    check_bytes, check_is, check_number, check_numbers, check_shape, check_within, matrix, put,
+    zeros,
 };
-use run_data::{Command, Files, IndexList, Mat, Part, Script, Word, put_part};
+use run_data::{Command, Files, IndexList, Mat, Part, Script, Word};
 use std::alloc::Global;
 use std::process::Abort;
-
-/// Stops where the part does not lie in the matrix.
-fn check_within(rt: &impl Abort, at: Part, m: &Mat)
-    ensures { IsWithin at m.now }
-{
-    assert!(rt; at.r0 <= at.r1 && at.r1 <= m.rows());
-    assert!(rt; at.c0 <= at.c1 && at.c1 <= m.cols());
-}
 
 /// A part of a matrix.
 fn part(rt: &impl Abort, alloc: Global, m: &Mat, at: Part) -> Mat {
     check_within(rt, at, m);
     m.part(alloc, at).expect(rt, "memory for a part")
-}
-
-/// Copies a part of a matrix over one of another, of the same shape.
-fn put(rt: &impl Abort, dst: &mut Mat, at: Part, src: &Mat, sp: Part) {
-    check_within(rt, at, dst);
-    check_within(rt, sp, src);
-    assert!(rt; at.r1 - at.r0 == sp.r1 - sp.r0 && at.c1 - at.c0 == sp.c1 - sp.c0);
-    put_part(dst, at, src, sp);
 }
 
 /// A copy of a matrix with one word written.

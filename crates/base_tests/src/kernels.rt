@@ -3,11 +3,11 @@ ghost use Rattle.std.specs.Prelude.{◌≡◌, ◌≢◌, ℕ, ◌-◌, ◌<◌,
 ghost use Rattle.run_data.specs.Parts.{IsWithin, part_entry};
 ghost use Rattle.local_blas.specs.Kernels.{AreWords};
 
-use crate::checks::{check_is, check_number, check_shape, matrix, zeros};
+use crate::checks::{check_is, check_number, check_shape, check_within, matrix, put, zeros};
 use field_core::{F65521, F65537, Field};
 use local_blas::{
-    Mat, Part, add_scaled, eliminate, first_nonzero, mul_add, put_part, scale, solve_lower,
-    solve_upper, swap_rows,
+    Mat, Part, add_scaled, eliminate, first_nonzero, mul_add, scale, solve_lower, solve_upper,
+    swap_rows,
 };
 use std::alloc::Global;
 use std::process::Abort;
@@ -29,14 +29,6 @@ fn check_words<K: Field>(rt: &impl Abort, m: &Mat)
     ensures { AreWords K.MODULUS m.now }
 {
     assert!(rt; m.has_words_below(K::MODULUS));
-}
-
-/// Stops where the part does not lie in the matrix.
-fn check_within(rt: &impl Abort, at: Part, m: &Mat)
-    ensures { IsWithin at m.now }
-{
-    assert!(rt; at.r0 <= at.r1 && at.r1 <= m.rows());
-    assert!(rt; at.c0 <= at.c1 && at.c1 <= m.cols());
 }
 
 /// Stops where the diagonal of a square part has a 0 and does not count as 1.
@@ -112,14 +104,6 @@ fn add_part<K: Field>(rt: &impl Abort, dst: &mut Mat, at: Part, a: u32, src: &Ma
     check_words::<K>(rt, src);
     assert!(rt; at.r1 - at.r0 == sp.r1 - sp.r0 && at.c1 - at.c0 == sp.c1 - sp.c0);
     add_scaled::<K>(dst, at, a, src, sp);
-}
-
-/// Copies a part over another of the same shape.
-fn put(rt: &impl Abort, dst: &mut Mat, at: Part, src: &Mat, sp: Part) {
-    check_within(rt, at, dst);
-    check_within(rt, sp, src);
-    assert!(rt; at.r1 - at.r0 == sp.r1 - sp.r0 && at.c1 - at.c0 == sp.c1 - sp.c0);
-    put_part(dst, at, src, sp);
 }
 
 /// Exchanges two rows.

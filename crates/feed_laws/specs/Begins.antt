@@ -1,5 +1,5 @@
 -- What a feeding phase asks before it begins: nothing is saved, and a matrix that is being fed has room.
-use Rattle.std.specs.Prelude.{◌≡◌, ◌+◌, ◌*◌, ◌≤◌, ◌<◌, ◌^◌, ◌&&◌, ◌||◌, ◌==◌, nat_lt, not, ℕ, Bool, true, false, List, [], ◌∷◌, length, if◌then◌else◌, min, refl, IsTrue}
+use Rattle.std.specs.Prelude.{◌≡◌, ◌+◌, ◌*◌, ◌≤◌, ◌<◌, ◌^◌, ◌&&◌, ◌==◌, not, ℕ, Bool, true, false, List, [], ◌∷◌, length, if◌then◌else◌, refl, IsTrue}
 use Rattle.std.proofs.Common.{arith, subst, sym, ap, ◌∙◌, ⊎_elim}
 use Rattle.std.proofs.lemmas.Bool.{cases_Bool, and_parts, and_from, or_cases, or_right, eqb-true, eq-eqb, true≢false, true_from_ne_false}
 use Rattle.std.proofs.lemmas.Nat.{mul-le}
@@ -7,9 +7,9 @@ use Rattle.array_desc.proofs.CountLaws.{numroc-most}
 use Rattle.blacs_grid.specs.Places.{row_of, is_member, is_data_rank, is_code_rank}
 use Rattle.blacs_grid.proofs.PlaceLaws.{width-pos, row_of-lt, is_data_rank-member}
 use Rattle.rank_machine.specs.declared.layout.Layout.{Layout}
-use Rattle.rank_machine.specs.Setting.{Setting, Job, grid_of_rank, layout, group_count, strip_rows, is_matrix, factored}
+use Rattle.rank_machine.specs.Setting.{Setting, Job, grid_of_rank, layout, group_count, strip_rows, is_matrix}
 use Rattle.rank_machine.specs.State.{State, end_mark}
-use Rattle.rank_machine.specs.Effect.{is_live_matrix, is_live_list, is_dropped, has_ended, current}
+use Rattle.rank_machine.specs.Effect.{is_live_matrix, is_dropped, has_ended, current}
 use Rattle.rank_machine.specs.Held.{is_on, cells_of, tile_of_jobs, pivots_of_jobs, counts_matrix, most_words}
 use Rattle.rank_machine.specs.Legal.{IsLegalFrom}
 use Rattle.rank_machine.specs.Marks.{follows}
@@ -17,28 +17,14 @@ use Rattle.phases.specs.Plans.{CanStart, saves}
 use Rattle.phases.specs.Words.{AddThrough, HasRoom, live_cells, live_tile, live_lists, at_rest}
 use Rattle.run_laws.specs.NextMark.{has_line}
 use Rattle.run_laws.proofs.Marks.{job_of_matrix, line_is, goes_on}
+use Rattle.phase_words.proofs.Rooms.{one_more, own_cells, cells_fit, tiles_fit, tile_there, lists_fit}
 use Rattle.feed_laws.specs.Feeding.{FeedTask, MayFeed, feed_plan, feed_words, strip_words}
-
-one_more : (live more on : Bool) (n : ℕ) → (if live && on then n else 0) ≤ (if (live || more) && on then n else 0)
-one_more true more on n = omega arith
-one_more false more on n = omega arith
-
-one_tile : (live more : Bool) (n : ℕ) → (if live then n else 0) ≤ (if live || more then n else 0)
-one_tile true more n = omega arith
-one_tile false more n = omega arith
-
-abbrev own_cells : Setting → ℕ → ℕ → ℕ
-own_cells s rank line = let d = layout s line in (strip_rows d (row_of d.grid rank) * d.desc.nb) * group_count d
 
 abbrev live_of : Setting → State → ℕ → ℕ → ℕ
 live_of s st rank line = if is_live_matrix s st.mark line && is_on (layout s line) rank then own_cells s rank line else 0
 
 abbrev count_of : Setting → State → ℕ → ℕ → ℕ
 count_of s st rank line = if counts_matrix s st line && is_on (layout s line) rank then own_cells s rank line else 0
-
-cells_fit : (s : Setting) (st : State) (rank : ℕ) (js : List Job) → live_cells s st.mark rank js ≤ cells_of s st rank js
-cells_fit s st rank [] = omega arith
-cells_fit s st rank (j ∷ js) = omega (arith, cells_fit s st rank js, one_more (is_live_matrix s st.mark j.line) (is_matrix s j.line && (j.line == current s st.mark)) (is_on (layout s j.line) rank) (own_cells s rank j.line))
 
 -- with the cells of a matrix that counts, and is not live
 cells_more : (s : Setting) (st : State) (rank line : ℕ) (js : List Job) → has_line js line ≡ true → is_live_matrix s st.mark line ≡ false → counts_matrix s st line ≡ true → is_on (layout s line) rank ≡ true
@@ -55,27 +41,6 @@ cells_more s st rank line (j ∷ js) there dead counts on =
     let here : live_of s st rank j.line ≤ count_of s st rank j.line = one_more (is_live_matrix s st.mark j.line) (is_matrix s j.line && (j.line == current s st.mark)) (is_on (layout s j.line) rank) (own_cells s rank j.line) in
     omega (arith, here, cells_more s st rank line js e dead counts on))
     (or_cases (j.line == line) (has_line js line) there)
-
-tiles_fit : (s : Setting) (st : State) (js : List Job) → live_tile s st.mark js ≤ tile_of_jobs s st js
-tiles_fit s st [] = omega arith
-tiles_fit s st (j ∷ js) = omega (arith, tiles_fit s st js, one_tile (is_live_matrix s st.mark j.line) (is_matrix s j.line && (j.line == current s st.mark)) ((layout s j.line).desc.lld * (layout s j.line).desc.nb))
-
-abbrev tile_at : Setting → State → ℕ → ℕ
-tile_at s st line = if counts_matrix s st line then (layout s line).desc.lld * (layout s line).desc.nb else 0
-
-tile_there : (s : Setting) (st : State) (line : ℕ) (js : List Job) → has_line js line ≡ true → counts_matrix s st line ≡ true → (layout s line).desc.lld * (layout s line).desc.nb ≤ tile_of_jobs s st js
-tile_there s st line [] there counts = absurd (true≢false (sym there))
-tile_there s st line (j ∷ js) there counts =
-    ⊎_elim
-    (λ (e : (j.line == line) ≡ true).
-    let some : tile_at s st j.line ≡ (layout s line).desc.lld * (layout s line).desc.nb = ap (tile_at s st) (eqb-true j.line line e) ∙ ap (λ b. if b then (layout s line).desc.lld * (layout s line).desc.nb else 0) counts in
-    omega (arith, some))
-    (λ (e : has_line js line ≡ true). omega (arith, tile_there s st line js e counts))
-    (or_cases (j.line == line) (has_line js line) there)
-
-lists_fit : (s : Setting) (st : State) (rank : ℕ) (js : List Job) → live_lists s st.mark rank js ≤ pivots_of_jobs s st rank js
-lists_fit s st rank [] = omega arith
-lists_fit s st rank (j ∷ js) = omega (arith, lists_fit s st rank js, one_more (is_live_list s st.mark j.line) (nat_lt 0 (factored s j.line) && (j.line == current s st.mark)) (is_on (layout s j.factors) rank) (min (layout s j.factors).desc.m (layout s j.factors).desc.n))
 
 fit_data : (b : Bool) (a c t own x y z : ℕ) → b ≡ true → a + own ≤ x → c ≤ z → ((if b then a else (2 * a + t)) + c) + own ≤ ((if b then x else 2 * x) + 8 * y) + 2 * z
 fit_data true a c t own x y z e h k = omega (arith, h, k)

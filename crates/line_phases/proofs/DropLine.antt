@@ -29,7 +29,8 @@ use Rattle.whole_run.specs.Until.{values_at}
 use Rattle.whole_run.specs.Between.{StandsFor, HasRun}
 use Rattle.whole_run.proofs.Ending.{setting_is}
 use Rattle.whole_run.proofs.Later.{AreLater}
-use Rattle.whole_run.proofs.LineEnds.{EndsLine, ended_at}
+use Rattle.whole_run.proofs.LineEnds.{EndsLine}
+use Rattle.whole_run.proofs.Partly.{ended_at}
 use Rattle.line_phases.proofs.NextJob.{job-is, line-follows}
 use Rattle.line_phases.proofs.StillStands.{KeepsTiles, value-same, other-drop, matrix-stands, list-stands, no-matrix, no-list, stands-whole}
 

@@ -133,7 +133,9 @@ matrix-ends script files line old new out progress name grid m n mb nb rsrc csrc
       progress = progress;
       mark = refl;
       driven = driven;
-      few = subst (λ s. feed_records (layout s (suc line)) ≤ records_in cs (suc line) (c.Matrix name grid m n mb nb rsrc csrc file)) (sym same) (feeds-few script files (suc line) name grid m n mb nb rsrc csrc file kept e);
+      few = (let most : feed_records (layout (setting_in old) (suc line)) ≤ records_in cs (suc line) (c.Matrix name grid m n mb nb rsrc csrc file) =
+          subst (λ s. feed_records (layout s (suc line)) ≤ records_in cs (suc line) (c.Matrix name grid m n mb nb rsrc csrc file)) (sym same) (feeds-few script files (suc line) name grid m n mb nb rsrc csrc file kept e) in
+          omega (arith, most));
       goes = goes;
       short = short;
       heals = heals;

@@ -170,7 +170,7 @@ module _ (script : List (Option Command)) (files : Matrices) (line : ℕ) (name 
         progress = progress;
         mark = refl;
         driven = driven;
-        few = print-few old out h;
+        few = omega (arith, print-few old out h);
         goes = goes;
         short = short;
         heals = heals;

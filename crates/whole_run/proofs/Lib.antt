@@ -8,7 +8,9 @@ pub mod Completing
 pub mod JobLines
 pub mod Passing
 pub mod Opening
+pub mod Partly
 pub mod LineEnds
+pub mod Parts
 pub mod Mendable
 pub mod Measured
 pub mod WholeText

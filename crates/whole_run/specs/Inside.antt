@@ -1,7 +1,8 @@
 -- What holds inside the run of a line, and what a run that is cut short there has to leave as it was.
-use Rattle.std.specs.Prelude.{◌≡◌, ◌≤◌, ◌+◌, ◌*◌, ℕ, true, nat_le, List, Option}
+use Rattle.std.specs.Prelude.{◌≡◌, ◌≤◌, ◌+◌, ◌*◌, ℕ, true, false, nat_le, List, Option}
 use Rattle.run_data.specs.declared.command.Command.{Command}
 use Rattle.run_data.specs.Script.{commands_of}
+use Rattle.rank_machine.specs.declared.mark.Mark.{Mark}
 use Rattle.rank_machine.specs.Setting.{is_job}
 use Rattle.rank_machine.specs.Scripts.{Matrices, file_of}
 use Rattle.script_bounds.specs.Bounds.{plain_bound, losses, phase_steps, recovery_steps}
@@ -15,7 +16,7 @@ use Rattle.world_heal.specs.declared.healing.Drove.TheVariants as d
 use Rattle.whole_run.specs.PrintedFrom.{ArePrinted}
 use Rattle.serial_model.specs.Serial.{up_to, text_to}
 use Rattle.rank_machine.specs.Losses.{last_ended}
-use Rattle.whole_run.specs.Until.{bound_until}
+use Rattle.whole_run.specs.Until.{bound_until, AllEndUntil}
 use Rattle.whole_run.specs.Between.{IsInBounds, cost}
 use Rattle.whole_run.specs.WholeRun.{Ending, done, beyond, no_spare}
 
@@ -31,6 +32,15 @@ pub record IsInside (script : List (Option Command)) (files : Matrices) (line us
   pub bounds : IsInBounds (setting_in w) (phase_steps (commands_of script)) (recovery_steps (commands_of script)) w.journal
   pub few : spent (cost (commands_of script)) (setting_in w) w.journal ≤ (bound_until line (commands_of script) + used) + losses (commands_of script) * cost (commands_of script)
   pub fits : bound_until line (commands_of script) + used ≤ plain_bound (commands_of script)
+
+-- After a commit inside the line that follows these, or before its first; and each line before has its commit that ends it
+pub record IsPartly (script : List (Option Command)) (files : Matrices) (line used : ℕ) (w : WorldView) (out : List ℕ) : Type 0 where
+  pub inside : IsInside script files line used w out
+  pub ends : AllEndUntil (setting_in w) line w.journal
+
+-- the mark of a commit inside a line that factors nothing
+abbrev pub part_mark : ℕ → Mark
+part_mark line = record { line = line; ended = false; closed = 0; opened = false; merged = 0 }
 
 -- the bounds of a script are kept, and the losses that fell have paid for what was added
 pub record KeepsBounds (script : List (Option Command)) (old new : WorldView) : Type 0 where

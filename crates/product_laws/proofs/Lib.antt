@@ -1,0 +1,9 @@
+pub mod Saving
+pub mod Counting
+pub mod Standing
+pub mod Words
+pub mod Begins
+pub mod Law
+pub mod After
+pub mod Effect
+pub mod Steps

@@ -1,0 +1,5 @@
+pub mod Blocks
+pub mod Scales
+pub mod Group
+pub mod Words
+pub mod Standing
